@@ -1,0 +1,8 @@
+// The outside as a build sees it: the law of commands, disks, worlds and sinks, and the orders that they are given.
+#![tactic(auto)]
+
+pub mod disk;
+pub mod law;
+pub mod order;
+pub mod sink;
+pub mod world;
