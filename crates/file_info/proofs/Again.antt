@@ -17,13 +17,13 @@ pub no_cut : (b : ℕ) → b ≢ 47 → (b == 47) ≡ false
 no_cut b n = grind (arith, common_steps)
 
 -- parts with no slash, joined and cut again
-parts_of-join : (part : List ℕ) (parts : List (List ℕ)) → Each HasNoSlash (part ∷ parts) → parts_of (join_with_byte 47 (part ∷ parts)) ≡ part ∷ parts
+pub parts_of-join : (part : List ℕ) (parts : List (List ℕ)) → Each HasNoSlash (part ∷ parts) → parts_of (join_with_byte 47 (part ∷ parts)) ≡ part ∷ parts
 parts_of-join part [] e = slice_split_none (λ b. b == 47) part (λ k d l. no_cut _ (e.0 k d l))
 parts_of-join part (next ∷ parts) e =
     slice_split_at (λ b. b == 47) part 47 (join_with_byte 47 (next ∷ parts)) (λ k d l. no_cut _ (e.0 k d l)) refl
     ∙ ap (λ w. part ∷ w) (parts_of-join next parts e.1)
 
-plain-no_slash : (names : List (List ℕ)) → Each IsPlainPart names → Each HasNoSlash names
+pub plain-no_slash : (names : List (List ℕ)) → Each IsPlainPart names → Each HasNoSlash names
 plain-no_slash [] e = tt
 plain-no_slash (name ∷ names) e = (e.0.no_slash, plain-no_slash names e.1)
 
@@ -35,7 +35,7 @@ all-no_slash zero names e = plain-no_slash names e
 all-no_slash (suc ups) names e = (dots-no_slash, all-no_slash ups names e)
 
 -- names alone lead down by just them
-way_of-names : (names : List (List ℕ)) → Each IsPlainPart names → way_of names ≡ record { ups = 0; names = names }
+pub way_of-names : (names : List (List ℕ)) → Each IsPlainPart names → way_of names ≡ record { ups = 0; names = names }
 way_of-names [] e = refl
 way_of-names (name ∷ names) e = rw (e.0.not_skipped, e.0.not_up, way_of-names names e.1) refl
 
@@ -52,7 +52,7 @@ first-not_skipped zero [] part parts e p = cc
 first-not_skipped zero (name ∷ names) part parts e p = let same : name ≡ part = cc in subst (λ w. is_skipped w ≡ false) same e.0.not_skipped
 first-not_skipped (suc ups) names part parts e p = let same : dots ≡ part = cc in subst (λ w. is_skipped w ≡ false) same refl
 
-joined-not_absolute : (part : List ℕ) (parts : List (List ℕ)) → is_skipped part ≡ false → HasNoSlash part → is_absolute (join_with_byte 47 (part ∷ parts)) ≡ false
+pub joined-not_absolute : (part : List ℕ) (parts : List (List ℕ)) → is_skipped part ≡ false → HasNoSlash part → is_absolute (join_with_byte 47 (part ∷ parts)) ≡ false
 joined-not_absolute [] parts s n = cc
 joined-not_absolute (b ∷ part) [] s n = no_cut b (n 0 b (omega arith))
 joined-not_absolute (b ∷ part) (next ∷ parts) s n = no_cut b (n 0 b (omega arith))
