@@ -96,3 +96,48 @@ impl Same for Info {
         }
     }
 }
+
+#[cfg(test)]
+mod tests {
+    use super::*;
+    use crate::list::List;
+    use std::test::Fail;
+
+    #[test]
+    fn informations_are_told_apart(rt: HostRuntime) -> Result<(), Fail> {
+        let stamp = stamp_of(&RawInfo {
+            size: 9,
+            seconds: 1,
+            nanos: 2,
+            inode: 3,
+            device: 4,
+        });
+        assert_eq!(rt; stamp, [1, 2, 3, 4]);
+        let mut short = List::new(rt.alloc());
+        short.push(b'a')?;
+        let mut long = short.copy(rt.alloc())?;
+        long.push(b'b')?;
+        let infos = [
+            Info::Missing,
+            Info::Directory,
+            Info::File { size: 9, stamp },
+            Info::File { size: 8, stamp },
+            Info::File {
+                size: 9,
+                stamp: [1, 2, 3, 5],
+            },
+            Info::Link {
+                text: List::new(rt.alloc()),
+            },
+            Info::Link { text: short },
+            Info::Link { text: long },
+        ];
+        for (place, info) in infos.iter().enumerate() {
+            let copy = info.copy(rt.alloc())?;
+            for (other_place, other) in infos.iter().enumerate() {
+                assert_eq!(rt; copy.same(other), place == other_place, "at {place} and {other_place}");
+            }
+        }
+        Ok(())
+    }
+}

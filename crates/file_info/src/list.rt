@@ -101,3 +101,33 @@ impl<T> List<T> {
         items
     }
 }
+
+#[cfg(test)]
+mod tests {
+    use super::*;
+    use crate::copied::Copied;
+    use std::test::Fail;
+
+    #[test]
+    fn bytes_are_kept_in_order(rt: HostRuntime) -> Result<(), Fail> {
+        let mut bytes = Bytes::new(rt.alloc());
+        assert!(rt; bytes.is_empty());
+        bytes.push(7)?;
+        assert_eq!(rt; bytes.get(0).copied(), Some(7));
+        assert_eq!(rt; bytes.get(1).copied(), None);
+        bytes.reserve(3)?;
+        let copy = bytes.copy(rt.alloc())?;
+        assert_eq!(rt; copy.as_slice(), [7].as_slice());
+        // So many items fit without a change of the room, so these calls took no memory.
+        let room = bytes.items.capacity();
+        assert!(rt; 4 <= room);
+        for item in 8..11 {
+            bytes.push(item)?;
+        }
+        assert_eq!(rt; bytes.items.capacity(), room);
+        let items = bytes.into_vec();
+        assert_eq!(rt; items.as_slice(), [7, 8, 9, 10].as_slice());
+        assert_eq!(rt; List::from_vec(items).len(), 4);
+        Ok(())
+    }
+}

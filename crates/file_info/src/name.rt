@@ -126,3 +126,81 @@ impl Copied for Name {
         Ok(Name { text })
     }
 }
+
+#[cfg(test)]
+mod tests {
+    use super::*;
+    use std::process::Abort;
+    use std::test::Fail;
+
+    // Reads the text, and sees that it is a name, or that it has this fault.
+    fn read_as(
+        rt: &impl Abort,
+        alloc: Global,
+        text: &str,
+        fault: Option<NameError>,
+    ) -> Result<(), Fail> {
+        let found = match Name::read(alloc, text) {
+            Ok(name) => {
+                assert_eq!(rt; name.text(), text);
+                None
+            }
+            Err(error) => Some(error),
+        };
+        assert_eq!(rt; found, fault, "at {text:?}");
+        Ok(())
+    }
+
+    #[test]
+    fn texts_are_names_or_have_a_fault(rt: HostRuntime) -> Result<(), Fail> {
+        for (text, fault) in [
+            ("app", None),
+            ("a", None),
+            (" ", None),
+            ("~", None),
+            ("<all>", None),
+            ("<link app>", None),
+            ("out/app", None),
+            ("..", None),
+            ("a:b=c#d", None),
+            ("\"quoted\" \\", None),
+            ("\u{80}", None),
+            ("größe", None),
+            ("名前", None),
+            ("🦀", None),
+            ("", Some(NameError::Empty)),
+            ("a\n", Some(NameError::Control { at: 1 })),
+            ("\n", Some(NameError::Control { at: 0 })),
+            ("\0", Some(NameError::Control { at: 0 })),
+            ("\ta", Some(NameError::Control { at: 0 })),
+            ("ab\r\n", Some(NameError::Control { at: 2 })),
+            ("a\x1Fb", Some(NameError::Control { at: 1 })),
+            ("a\x7F", Some(NameError::Control { at: 1 })),
+            ("名\x7F\n", Some(NameError::Control { at: 3 })),
+            ("\x1B[1m", Some(NameError::Control { at: 0 })),
+        ] {
+            read_as(&rt, rt.alloc(), text, fault)?;
+        }
+        Ok(())
+    }
+
+    #[test]
+    fn names_have_up_to_4096_bytes(rt: HostRuntime) -> Result<(), Fail> {
+        for (piece, count, last, fault) in [
+            ("n", 4095, "", None),
+            ("n", 4096, "", None),
+            ("n", 4097, "", Some(NameError::TooLong)),
+            ("é", 2048, "", None),
+            ("é", 2048, "n", Some(NameError::TooLong)),
+            ("n", 4095, "\x7F", Some(NameError::Control { at: 4095 })),
+            ("n", 4096, "\x7F", Some(NameError::TooLong)),
+            ("\n", 4097, "", Some(NameError::TooLong)),
+        ] {
+            let mut text = piece.repeat(rt.alloc(), count)?;
+            text.push_str(last)?;
+            read_as(&rt, rt.alloc(), text.as_str(), fault)?;
+            assert_eq!(rt; Name::from_string(text).err(), fault, "at {count} of {piece:?}");
+        }
+        Ok(())
+    }
+}

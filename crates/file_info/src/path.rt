@@ -131,3 +131,83 @@ impl Copied for PathName {
         Ok(PathName { text })
     }
 }
+
+#[cfg(test)]
+mod tests {
+    use super::*;
+    use std::test::Fail;
+
+    #[test]
+    fn paths_have_a_normal_form(rt: HostRuntime) -> Result<(), Fail> {
+        for (text, normal) in [
+            ("a", "a"),
+            ("a/", "a"),
+            ("a/b/c", "a/b/c"),
+            ("a//./b/../c", "a/c"),
+            ("./a", "a"),
+            ("a/..", "."),
+            (".", "."),
+            ("./", "."),
+            ("..", ".."),
+            ("../x", "../x"),
+            ("a/../../b", "../b"),
+            ("a/b/../../..", ".."),
+            ("../../a/../b", "../../b"),
+            ("/", "/"),
+            ("//", "/"),
+            ("/.", "/"),
+            ("/a/..", "/"),
+            ("//a/./b//..", "/a"),
+            ("/a/b/../../c", "/c"),
+            ("...", "..."),
+            (".a/..b/c.", ".a/..b/c."),
+            ("a b\n/\x7F", "a b\n/\x7F"),
+            ("größe/../名前/", "名前"),
+        ] {
+            let path = PathName::read(rt.alloc(), text)?;
+            assert_eq!(rt; path.text(), normal, "of {text:?}");
+        }
+        Ok(())
+    }
+
+    #[test]
+    fn other_texts_are_refused(rt: HostRuntime) -> Result<(), Fail> {
+        for (text, fault) in [
+            ("", PathError::Empty),
+            ("\0", PathError::HasNul),
+            ("a\0b", PathError::HasNul),
+            ("/../\0", PathError::HasNul),
+            ("/..", PathError::AboveRoot),
+            ("/../a", PathError::AboveRoot),
+            ("//a/./../..", PathError::AboveRoot),
+            ("/a/../../a", PathError::AboveRoot),
+        ] {
+            assert_eq!(rt; PathName::read(rt.alloc(), text).err(), Some(fault), "at {text:?}");
+        }
+        Ok(())
+    }
+
+    #[test]
+    fn paths_have_up_to_4096_bytes(rt: HostRuntime) -> Result<(), Fail> {
+        for (first, piece, count, length, fault) in [
+            ("", "p", 4096, 4096, None),
+            ("", "p", 4097, 0, Some(PathError::TooLong)),
+            ("", "../", 1365, 4094, None),
+            ("./", "p", 4094, 4094, None),
+            ("./", "p", 4095, 0, Some(PathError::TooLong)),
+            ("/", "p/", 2047, 4094, None),
+            ("/../", "\0", 4092, 0, Some(PathError::HasNul)),
+            ("/../", "\0", 4093, 0, Some(PathError::TooLong)),
+        ] {
+            let mut text = String::from_str(rt.alloc(), first)?;
+            text.push_str(piece.repeat(rt.alloc(), count)?.as_str())?;
+            let (found, error) = match PathName::read(rt.alloc(), text.as_str()) {
+                Ok(path) => (path.text().len(), None),
+                Err(error) => (0, Some(error)),
+            };
+            assert_eq!(rt; found, length, "at {first:?} and {count} of {piece:?}");
+            assert_eq!(rt; error, fault, "at {first:?} and {count} of {piece:?}");
+        }
+        Ok(())
+    }
+}
