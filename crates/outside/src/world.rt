@@ -55,4 +55,5 @@ pub trait World<L: Law>: Disk<L> {
 }
 
 /// The fault of a host that never has one.
+#[derive(Drop)]
 pub enum NoFault {}
