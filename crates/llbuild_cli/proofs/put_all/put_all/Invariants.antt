@@ -1,0 +1,13 @@
+use Rattle.std.proofs.Common.{◌≡◌, ◌≤◌, ◌-◌, take, length}
+use Rattle.outside.specs.Telling.{Grew}
+use Rattle.llbuild_cli.proofs.put_all.put_all.Given as goal
+
+abbrev pub invariant-rest : goal.invariant-rest
+invariant-rest g l = record {
+  inside : l.at ≤ length l.piece;
+  told : Grew (g.O.Sink.bytes l.fn.out) (g.O.Sink.bytes l.out) (take l.at l.piece);
+  later : g.O.Sink.faults l.fn.out ≤ g.O.Sink.faults l.out;
+}
+
+abbrev pub decreases-rest : goal.decreases-rest
+decreases-rest g l = length l.piece - l.at

@@ -1,0 +1,51 @@
+// The build system's program: reads a manifest, and starts the commands that a target needs.
+#![tactic(auto)]
+
+mod build;
+mod files;
+mod put_all;
+mod reach;
+mod real_world;
+mod report;
+mod run;
+mod seen;
+mod signature;
+mod spawn;
+mod std_sink;
+mod stop;
+mod texts;
+mod words;
+
+use crate::real_world::RealWorld;
+use crate::run::run_alone;
+use crate::std_sink::StdSink;
+use outside::law::Law;
+use std::process::ExitCode;
+use std::{env, io};
+
+// The law of which the real world says nothing.
+struct NoLaw;
+
+impl Law for NoLaw {
+    ghost does = { λ s d w o. ⊥ };
+
+    ghost function = { λ s d w v o q a b agree. absurd a };
+}
+
+fn main(rt: HostRuntime) -> io::Result<ExitCode> {
+    let mut words = Vec::new(rt.alloc());
+    for word in env::args(&rt)?.skip(1) {
+        words.push(word)?;
+    }
+    let mut world = RealWorld::new(rt);
+    let mut out = StdSink::new(rt.stdout());
+    let mut err = StdSink::new(rt.stderr());
+    let finish = run_alone::<NoLaw, _, _, _>(
+        rt.alloc(),
+        words.as_slice(),
+        &mut world,
+        &mut out,
+        &mut err,
+    );
+    Ok(ExitCode::from(finish.status))
+}

@@ -1,0 +1,162 @@
+//! The world of real files and programs. It is the trusted edge: it tells nothing of what files hold.
+ghost use Rattle.std.specs.Prelude.{◌≡◌, ℕ, ◌+◌, ◌<◌, ◌≤◌, [], ◌∷◌, ◌++◌, length, IsErrOf};
+ghost use Rattle.outside.specs.Telling.{HasCause};
+
+use crate::files::{bytes_of, disk_error, info_of};
+use crate::spawn::perform;
+use file_info::info::{Form, Info};
+use file_info::path::PathName;
+use outside::disk::{Disk, DiskError, FileBytes};
+use outside::law::Law;
+use outside::order::{Ended, Exit, Order};
+use outside::world::World;
+use std::alloc::Global;
+use std::collections::VecDeque;
+use std::io;
+use std::process::Processes;
+use std::rt::Files;
+
+/// The files of this machine, seen from the folder of this process.
+#[derive(Drop)]
+pub struct RealDisk<R: Files + AllocGlobal + Drop> {
+    rt: R,
+    faults: u64,
+}
+
+/// The files, and the programs that run on them. An order that is begun waits; `end` runs the oldest.
+#[derive(Drop)]
+pub struct RealWorld<R: Files + AllocGlobal + Processes + Drop> {
+    rt: R,
+    faults: u64,
+    waiting: VecDeque<Order>,
+    begins: u64,
+}
+
+// The answer of a call, where a failure raises the count.
+fn answer<T: Drop>(faults: &mut u64, outcome: io::Result<T>) -> Result<T, DiskError>
+    ensures cause { HasCause faults.old faults.new result }
+    ensures here { IsErrOf result DiskError.NotDirectory → ⊥ }
+{
+    match outcome {
+        Ok(value) => Ok(value),
+        Err(error) => {
+            let before = *faults;
+            *faults = before.saturating_add(1);
+            Err(disk_error(&error))
+        }
+    }
+}
+
+impl<R: Files + AllocGlobal + Drop> RealDisk<R> {
+    /// The disk, which has not failed yet.
+    pub fn new(rt: R) -> RealDisk<R> {
+        RealDisk { rt, faults: 0 }
+    }
+}
+
+impl<R: Files + AllocGlobal + Processes + Drop> RealWorld<R> {
+    /// The world with nothing begun.
+    pub fn new(rt: R) -> RealWorld<R>
+        ensures { result.waiting.items ≡ [] }
+    {
+        let alloc = rt.alloc();
+        RealWorld {
+            rt,
+            faults: 0,
+            waiting: VecDeque::new(alloc),
+            begins: 0,
+        }
+    }
+}
+
+impl<L: Law, R: Files + AllocGlobal + Drop> Disk<L> for RealDisk<R> {
+    ghost use Rattle.std.specs.Prelude.{[]};
+    ghost use Rattle.file_info.specs.declared.info.Info.TheVariants.{Missing};
+
+    ghost at = { λ d p f. Missing };
+
+    ghost told = { λ d. ⊥ };
+
+    ghost tells = { λ d m. ⊥ };
+
+    ghost faults = { λ d. d.faults };
+
+    ghost orders = { λ d. [] };
+
+    ghost begins = { λ d. 0 };
+
+    ghost tells_infos = { λ d m t. t };
+
+    fn stat(&mut self, _alloc: Global, path: &PathName, form: Form) -> Result<Info, DiskError> {
+        let outcome = info_of(&self.rt, path, form);
+        answer(&mut self.faults, outcome)
+    }
+
+    fn read(&mut self, _alloc: Global, path: &PathName, most: u64) -> Result<FileBytes, DiskError> {
+        let outcome = bytes_of(&self.rt, path, most);
+        answer(&mut self.faults, outcome)
+    }
+}
+
+impl<L: Law, R: Files + AllocGlobal + Processes + Drop> Disk<L> for RealWorld<R> {
+    ghost use Rattle.file_info.specs.declared.info.Info.TheVariants.{Missing};
+
+    ghost at = { λ w p f. Missing };
+
+    ghost told = { λ w. ⊥ };
+
+    ghost tells = { λ w m. ⊥ };
+
+    ghost faults = { λ w. w.faults };
+
+    ghost orders = { λ w. w.waiting.items };
+
+    ghost begins = { λ w. w.begins };
+
+    ghost tells_infos = { λ w m t. t };
+
+    fn stat(&mut self, _alloc: Global, path: &PathName, form: Form) -> Result<Info, DiskError> {
+        let outcome = info_of(&self.rt, path, form);
+        answer(&mut self.faults, outcome)
+    }
+
+    fn read(&mut self, _alloc: Global, path: &PathName, most: u64) -> Result<FileBytes, DiskError> {
+        let outcome = bytes_of(&self.rt, path, most);
+        answer(&mut self.faults, outcome)
+    }
+}
+
+impl<L: Law, R: Files + AllocGlobal + Processes + Drop> World<L> for RealWorld<R> {
+    ghost use Rattle.std.specs.Prelude.{⊤};
+
+    ghost ended = { λ order exit. ⊤ };
+
+    fn begin(&mut self, _alloc: Global, order: Order) -> Result<(), DiskError> {
+        match self.waiting.push_back(order) {
+            Ok(()) => {
+                let before = self.begins;
+                self.begins = before.saturating_add(1);
+                Ok(())
+            }
+            Err(_) => Err(DiskError::NoMemory),
+        }
+    }
+
+    fn begun(&self) -> usize {
+        self.waiting.len()
+    }
+
+    fn end(&mut self, alloc: Global) -> Result<Ended, DiskError> {
+        let Some(order) = self.waiting.pop_front() else {
+            unreachable!()
+        };
+        let outcome = perform(&self.rt, alloc, &order.act);
+        match answer(&mut self.faults, outcome) {
+            Ok(exit) => Ok(Ended { order, exit }),
+            Err(error) => {
+                self.waiting.clear();
+                Err(error)
+            }
+        }
+    }
+}

@@ -1,0 +1,41 @@
+//! Standard output and standard error.
+ghost use Rattle.std.specs.Prelude.{◌≡◌, ℕ, ◌+◌, ◌<◌, ◌≤◌, length, IfOk, OnErr};
+
+use outside::sink::{Sink, SinkFault};
+use std::io::Write;
+
+/// A stream of this process. It tells nothing of what was written.
+#[derive(Drop)]
+pub struct StdSink<W: Write + Drop> {
+    writer: W,
+    faults: u64,
+}
+
+impl<W: Write + Drop> StdSink<W> {
+    /// The stream, which has not failed yet.
+    pub fn new(writer: W) -> StdSink<W> {
+        StdSink { writer, faults: 0 }
+    }
+}
+
+impl<W: Write + Drop> Sink for StdSink<W> {
+    ghost use Rattle.std.specs.Prelude.{None};
+
+    ghost bytes = { λ s. None };
+
+    ghost faults = { λ s. s.faults };
+
+    fn put(&mut self, piece: &[u8]) -> Result<usize, SinkFault> {
+        if piece.is_empty() {
+            return Ok(0);
+        }
+        match self.writer.write(piece) {
+            Ok(written) if written > 0 => Ok(written),
+            _ => {
+                let before = self.faults;
+                self.faults = before.saturating_add(1);
+                Err(SinkFault)
+            }
+        }
+    }
+}

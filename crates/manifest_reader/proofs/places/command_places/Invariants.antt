@@ -1,0 +1,7 @@
+use Rattle.std.proofs.Common.{◌≡◌, ℕ, List, take}
+use Rattle.indexmap.specs.IndexMap.{get_by_text}
+use Rattle.manifest_reader.specs.Places.{command_place}
+use Rattle.manifest_reader.proofs.places.command_places.Given as goal
+
+abbrev pub invariant-loop-place : goal.invariant-loop-place
+invariant-loop-place l = (q : List ℕ) → get_by_text l.places q ≡ command_place (take l.place l.command-items) q

@@ -1,0 +1,7 @@
+use Rattle.std.proofs.Common.{◌≡◌, ℕ, List, take}
+use Rattle.indexmap.specs.IndexMap.{get_by_text}
+use Rattle.manifest_reader.specs.Places.{target_place}
+use Rattle.manifest_reader.proofs.places.target_places.Given as goal
+
+abbrev pub invariant-loop-place : goal.invariant-loop-place
+invariant-loop-place l = (q : List ℕ) → get_by_text l.places q ≡ target_place (take l.place l.target-items) q

@@ -1,0 +1,4 @@
+pub mod Errors
+pub mod Places
+pub mod Makers
+pub mod Manifest
