@@ -1,0 +1,3 @@
+pub mod Commands
+pub mod Fresh
+pub mod Unique

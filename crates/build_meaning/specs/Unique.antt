@@ -1,0 +1,17 @@
+-- What makes a fresh content the only one.
+use Rattle.std.specs.Prelude.{◌≡◌, ℕ, List, [], slice_get, Some}
+use Rattle.file_info.specs.Content.{Content, ReadContent}
+use Rattle.file_info.specs.Lists.{In}
+use Rattle.file_info.specs.declared.info.Info.{Info}
+use Rattle.file_info.specs.declared.node.NodeName.{NodeName}
+use Rattle.outside.specs.Formed.{paths_of}
+use Rattle.manifest_reader.specs.declared.command.Command.{Command}
+use Rattle.build_meaning.specs.Fresh.{Sights}
+
+-- each path is an output of one command, at one place
+abbrev pub HasOneMaker : List Command → Type 0
+HasOneMaker cs = (c e : Command) (k j : ℕ) (p : List ℕ) → In c cs → In e cs → slice_get (paths_of c.outputs) k ≡ Some p → slice_get (paths_of e.outputs) j ≡ Some p → (c ≡ e) × (k ≡ j)
+
+-- no path was seen with two informations
+abbrev pub SawOnce : Sights → Type 0
+SawOnce seen = (p : List ℕ) (i j : Info) → In (p, i) seen → In (p, j) seen → i ≡ j
