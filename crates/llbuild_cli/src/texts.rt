@@ -8,7 +8,7 @@ use file_info::name::Name;
 use manifest_reader::error::LoadError;
 use outside::order::Exit;
 use std::alloc::{AllocError, Global};
-use yaml_profile::YamlError;
+use yaml_profile::{Feature, YamlError};
 
 // The digit of a number below 16.
 fn hex_digit(number: u8) -> u8
@@ -48,15 +48,53 @@ pub fn summary(alloc: Global, starts: u64) -> Result<Vec<u8>, NoMemory> {
     Ok(format!(in alloc; "ok: {starts} started\n")?.into_bytes())
 }
 
+// A text, and the place of a byte behind it.
+fn push_at(alloc: Global, out: &mut Vec<u8>, text: &[u8], at: u64) -> Result<(), AllocError> {
+    out.extend_from_slice(text)?;
+    out.extend_from_slice(b" at byte ")?;
+    out.extend_from_slice(format!(in alloc; "{at}")?.as_bytes())
+}
+
+// The name of what the profile leaves out.
+fn feature_text(feature: Feature) -> &'static [u8] {
+    match feature {
+        Feature::Anchor => b"anchor",
+        Feature::Alias => b"alias",
+        Feature::Tag => b"tag",
+        Feature::Directive => b"directive",
+        Feature::Documents => b"documents",
+        Feature::BlockScalar => b"block scalar",
+        Feature::ManyLines => b"many lines",
+        Feature::ExplicitKey => b"explicit key",
+        Feature::Compact => b"compact",
+    }
+}
+
+// Why a text has no tree.
+fn push_yaml_error(alloc: Global, out: &mut Vec<u8>, error: &YamlError) -> Result<(), AllocError> {
+    match error {
+        YamlError::TooLong => out.extend_from_slice(b"too long"),
+        YamlError::NotUtf8 { at } => push_at(alloc, out, b"not UTF-8", *at),
+        YamlError::LeftOut { feature, at } => {
+            push_at(alloc, out, b"left out", *at)?;
+            out.extend_from_slice(b": ")?;
+            out.extend_from_slice(feature_text(*feature))
+        }
+        YamlError::Indent { at } => push_at(alloc, out, b"indentation", *at),
+        YamlError::TooDeep { at } => push_at(alloc, out, b"too deep", *at),
+        YamlError::RepeatedKey { at } => push_at(alloc, out, b"repeated key", *at),
+        YamlError::Syntax { at } => push_at(alloc, out, b"syntax", *at),
+        YamlError::NoMemory => out.extend_from_slice(b"out of memory"),
+    }
+}
+
 // Why a manifest was refused.
-fn push_load_error(out: &mut Vec<u8>, error: &LoadError) -> Result<(), AllocError> {
+fn push_load_error(alloc: Global, out: &mut Vec<u8>, error: &LoadError) -> Result<(), AllocError> {
     out.extend_from_slice(b"manifest: ")?;
     match error {
-        LoadError::Yaml(YamlError::TooLong) => out.extend_from_slice(b"too long"),
-        LoadError::Yaml(YamlError::NotYet) | LoadError::NotYet => out.extend_from_slice(b"not yet"),
-        LoadError::Yaml(YamlError::NoMemory) | LoadError::NoMemory => {
-            out.extend_from_slice(b"out of memory")
-        }
+        LoadError::Yaml(error) => push_yaml_error(alloc, out, error),
+        LoadError::NotYet => out.extend_from_slice(b"not yet"),
+        LoadError::NoMemory => out.extend_from_slice(b"out of memory"),
     }
 }
 
@@ -112,7 +150,7 @@ fn push_end<F>(alloc: Global, out: &mut Vec<u8>, end: &End<F>) -> Result<(), All
         End::MissingInput { asker, node } => push_missing(out, asker, node),
         End::Usage(fault) => push_usage(out, *fault),
         End::NoFile { path } => push_named(out, b"no file ", path.text().as_bytes(), b""),
-        End::Manifest(error) => push_load_error(out, error),
+        End::Manifest(error) => push_load_error(alloc, out, error),
         End::UnknownTarget { name } => push_named(out, b"unknown target ", name.as_slice(), b""),
         End::DiskFault => out.extend_from_slice(b"the disk failed"),
         End::HostFault { command, fault: _ } => {

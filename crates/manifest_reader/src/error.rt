@@ -7,9 +7,9 @@ use yaml_profile::YamlError;
 /// Why a manifest is not loaded.
 #[derive(Drop)]
 pub enum LoadError {
-    /// The bytes are no text of the form that is read. `NotYet` and `NoMemory` never stand in it.
+    /// The bytes are no text of the YAML profile: the reader's first refusal. `NoMemory` never stands in it.
     Yaml(YamlError),
-    /// The manifest has what is not served today.
+    /// The tree breaks a rule of manifests, or has what is not served today.
     NotYet,
     /// No memory was left.
     NoMemory,
@@ -23,9 +23,8 @@ impl From<YamlError> for LoadError {
 
     fn from(error: YamlError) -> LoadError {
         match error {
-            YamlError::TooLong => LoadError::Yaml(YamlError::TooLong),
-            YamlError::NotYet => LoadError::NotYet,
             YamlError::NoMemory => LoadError::NoMemory,
+            refusal => LoadError::Yaml(refusal),
         }
     }
 }

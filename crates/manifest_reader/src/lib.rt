@@ -12,5 +12,3 @@ mod order;
 mod places;
 mod sections;
 mod shapes;
-#[cfg(test)]
-mod tests;

@@ -1,6 +1,6 @@
 //! The reader of a manifest.
 ghost use Rattle.std.specs.Prelude.{◌≡◌, ◌↔◌, ◌<◌, ◌^◌, length, IfErr, IsErrOf};
-ghost use Rattle.yaml_profile.specs.declared.tree.YamlError.TheVariants as yaml;
+ghost use Rattle.yaml_profile.specs.declared.error.YamlError.TheVariants as yaml;
 ghost use Rattle.manifest_reader.specs.Errors.{IsPastText};
 
 use crate::error::LoadError;
@@ -26,7 +26,6 @@ fn manifest_of(alloc: Global, tree: Yaml) -> Result<Manifest, LoadError>
 /// output twice, and no command has an input that it or a later command makes. Every other text is `NotYet`, and so is one
 /// that passes a limit: 65,536 targets, 262,144 commands, 65,536 nodes in a list.
 pub fn load(alloc: Global, bytes: &[u8]) -> Result<Manifest, LoadError>
-    ensures too_long { IsErrOf result (LoadError.Yaml yaml.TooLong) ↔ (67108864 < length bytes.now) }
     ensures memory { IsErrOf result (LoadError.Yaml yaml.NoMemory) → ⊥ }
 {
     let tree = read(alloc, bytes)?;

@@ -1,0 +1,6 @@
+pub mod Text
+pub mod Scalar
+pub mod Mapping
+pub mod Flow
+pub mod Block
+pub mod Read

@@ -1,11 +1,18 @@
-// The reader of manifests' texts, which are written in a small part of YAML.
+// A profile of YAML 1.2: each text has one tree or one refusal, at one place.
 #![tactic(auto)]
 
-mod line;
+mod block;
+mod error;
+mod escape;
+mod fault;
+mod flow;
+mod lines;
+mod pairs;
 mod reader;
-#[cfg(test)]
-mod tests;
-pub mod tree;
+mod scalar;
+mod text;
+mod yaml;
 
-pub use reader::read;
-pub use tree::{Pair, Yaml, YamlError};
+pub use error::{Feature, YamlError};
+pub use reader::{DEPTH_MAX, TEXT_MAX, read};
+pub use yaml::{Pair, Yaml};

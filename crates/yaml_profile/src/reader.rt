@@ -1,112 +1,94 @@
-//! The reader of a text.
-ghost use Rattle.std.specs.Prelude.{◌≡◌, ◌<◌, ◌≤◌, ◌+◌, ◌↔◌, ◌^◌, length, IfOk, IfErr, IsErrOf};
+//! From text to tree.
+ghost use Rattle.std.specs.Prelude.{◌≡◌, ◌⊎◌, IfOk, IfErr};
+ghost use Rattle.yaml_profile.specs.Text.{Gives};
+ghost use Rattle.yaml_profile.specs.Block as spec;
+ghost use Rattle.yaml_profile.specs.Read.{yaml_of, error_at};
 
-use crate::line::{first_line, is_word};
-use crate::tree::{Pair, Yaml, YamlError};
-use file_info::list::{Bytes, List};
+use crate::block::block;
+use crate::error::{Feature, YamlError};
+use crate::fault::{Fault, Refusal, Stop};
+use crate::lines::{Line, ends_node, is_three, line_from, next_line, without_marker};
+use crate::text::{past_white, refused, sees};
+use crate::yaml::Yaml;
+use file_info::list::List;
 use std::alloc::Global;
-use std::collections::HashSet;
 
 /// The most bytes that a text has.
 pub const TEXT_MAX: usize = 67_108_864;
 
-// The deepest column at which a line begins.
-const DEEPEST: usize = 4;
+/// How many collections nest.
+pub const DEPTH_MAX: usize = 64;
 
-/// The tree of a text. Served today are mappings of one to three levels, a line for each pair: `name:` above lines that
-/// stand two columns deeper, or `name: value`, where the value is a word or a list of words in brackets. Every other
-/// text is `NotYet`; `TooLong` comes before it.
+// The line that the first node stands on, which is not the line `---`.
+fn begun<'a>(first: Option<Line<'a>>) -> Result<Option<Line<'a>>, Stop>
+    ensures { Gives spec.seen result (spec.begun (spec.seen first.entry)) }
+{
+    match first {
+        Some((0, text)) if is_three(b'-', text) => {
+            let rest = &text[3..];
+            if !ends_node(rest) {
+                return Err(refused(Fault::Syntax, past_white(rest)));
+            }
+            next_line(rest)
+        }
+        _ => without_marker(first),
+    }
+}
+
+// The tree of a text in UTF-8.
+#[tactic(auto, unfolding(crate::specs::Block::document))]
+fn document(alloc: Global, text: &[u8]) -> Result<Yaml, Stop>
+    ensures { Gives (λ tree. tree) result (spec.document text.now) }
+{
+    let first = line_from(Some(0), text)?;
+    let Some(line) = begun(first)? else {
+        return Ok(Yaml::Scalar(List::new(alloc)));
+    };
+    if line.0 == 0 && sees(b'%', line.1) {
+        return Err(refused(Fault::LeftOut(Feature::Directive), line.1));
+    }
+    let (tree, next) = block(alloc, DEPTH_MAX, false, line)?;
+    match next {
+        None => Ok(tree),
+        Some(line) => Err(refused(Fault::Indent, line.1)),
+    }
+}
+
+fn error_at(fault: Fault, at: u64) -> YamlError
+    ensures { result ≡ error_at fault at }
+{
+    match fault {
+        Fault::LeftOut(feature) => YamlError::LeftOut { feature, at },
+        Fault::Indent => YamlError::Indent { at },
+        Fault::TooDeep => YamlError::TooDeep { at },
+        Fault::RepeatedKey => YamlError::RepeatedKey { at },
+        Fault::Syntax => YamlError::Syntax { at },
+    }
+}
+
+/// The tree of a text in the profile of YAML that `docs/YAML.md` describes, or its first refusal. Besides those, want of
+/// memory may come at any text.
 pub fn read(alloc: Global, bytes: &[u8]) -> Result<Yaml, YamlError>
-    ensures { IsErrOf result YamlError.TooLong ↔ (67108864 < length bytes.now) }
+    ensures ok { IfOk result (λ tree. yaml_of bytes.now ≡ Ok tree) }
+    ensures refused { IfErr result (λ error. (error ≡ YamlError.NoMemory) ⊎ (yaml_of bytes.now ≡ Err error)) }
 {
     if bytes.len() > TEXT_MAX {
         return Err(YamlError::TooLong);
     }
-    let (pairs, below) = mapping(alloc, bytes, 0)?;
-    if !below.is_empty() {
-        return Err(YamlError::NotYet);
+    if let Err(error) = std::str::from_utf8(bytes) {
+        return Err(YamlError::NotUtf8 {
+            at: error.valid_up_to() as u64,
+        });
     }
-    Ok(Yaml::Map(pairs))
-}
-
-// The mapping whose pairs begin at this column, and the text below it. It ends at the first line of another column.
-fn mapping(alloc: Global, text: &[u8], column: usize) -> Result<(List<Pair>, &[u8]), YamlError>
-    ensures shorter { IfOk result (λ r. length r.1.now ≤ length text.now) }
-    ensures short { IsErrOf result YamlError.TooLong → ⊥ }
-{
-    let mut pairs = List::new(alloc);
-    let mut names = HashSet::new(alloc);
-    let mut rest = text;
-    while rest.iter().position(|byte| *byte != b' ') == Some(column) {
-        let Some(line) = first_line(&rest[column..]) else {
-            return Err(YamlError::NotYet);
-        };
-        if !names.insert(line.name)? {
-            return Err(YamlError::NotYet);
-        }
-        let (value, below) = match line.value {
-            Some(value) => (inline(alloc, value)?, line.below),
-            None if column < DEEPEST => {
-                let (pairs, below) = mapping(alloc, line.below, column + 2)?;
-                (Yaml::Map(pairs), below)
-            },
-            None => return Err(YamlError::NotYet),
-        };
-        pairs.push(Pair {
-            name: copied(alloc, line.name)?,
-            value,
-        })?;
-        rest = below;
-    }
-    if pairs.is_empty() {
-        return Err(YamlError::NotYet);
-    }
-    Ok((pairs, rest))
-}
-
-// A word or a list of words.
-fn inline(alloc: Global, text: &[u8]) -> Result<Yaml, YamlError>
-    ensures { IsErrOf result YamlError.TooLong → ⊥ }
-{
-    match text {
-        [b'[', b']'] => Ok(Yaml::Seq(List::new(alloc))),
-        [b'[', words @ .., b']'] => Ok(Yaml::Seq(words_of(alloc, words)?)),
-        _ => word(alloc, text),
+    match document(alloc, bytes) {
+        Ok(tree) => Ok(tree),
+        Err(Stop::Memory) => Err(YamlError::NoMemory),
+        Err(Stop::Refused(Refusal { fault, left })) => Err(error_at(
+            fault,
+            bytes.len().saturating_sub(left) as u64,
+        )),
     }
 }
 
-// The words with a comma and a space between each two.
-fn words_of(alloc: Global, text: &[u8]) -> Result<List<Yaml>, YamlError>
-    ensures { IsErrOf result YamlError.TooLong → ⊥ }
-{
-    let mut words = List::new(alloc);
-    for part in text.split(|byte| *byte == b',') {
-        let text = if words.is_empty() {
-            part
-        } else {
-            match part {
-                [b' ', text @ ..] => text,
-                _ => return Err(YamlError::NotYet),
-            }
-        };
-        words.push(word(alloc, text)?)?;
-    }
-    Ok(words)
-}
-
-// A word as a scalar.
-fn word(alloc: Global, text: &[u8]) -> Result<Yaml, YamlError>
-    ensures { IsErrOf result YamlError.TooLong → ⊥ }
-{
-    if !is_word(text) {
-        return Err(YamlError::NotYet);
-    }
-    Ok(Yaml::Scalar(copied(alloc, text)?))
-}
-
-// The bytes as a list of their own.
-fn copied(alloc: Global, text: &[u8]) -> Result<Bytes, YamlError>
-    ensures { IsErrOf result YamlError.TooLong → ⊥ }
-{
-    Ok(List::from_vec(Vec::from_slice(alloc, text)?))
-}
+#[cfg(test)]
+mod tests;

@@ -1,0 +1,4 @@
+pub mod Turns
+pub mod Powers
+pub mod Names
+pub mod Answer
