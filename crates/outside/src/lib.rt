@@ -3,6 +3,7 @@
 
 pub mod disk;
 pub mod law;
+pub mod laws;
 pub mod order;
 pub mod sink;
 pub mod world;
