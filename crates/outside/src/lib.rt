@@ -2,8 +2,10 @@
 #![tactic(auto)]
 
 pub mod disk;
+pub mod files;
 pub mod law;
 pub mod laws;
 pub mod order;
 pub mod sink;
 pub mod world;
+pub mod write;

@@ -1,0 +1,4 @@
+pub mod Ins
+pub mod Logs
+pub mod Numbers
+pub mod Places
