@@ -50,16 +50,16 @@ impl Files {
         self.writes.as_slice()
     }
 
-    /// The last write at a path. It walks over no writes.
-    pub fn last(&self, path: &PathName) -> Option<&Write>
+    /// The last write at the path of this text. It walks over no writes.
+    pub fn last(&self, path: &str) -> Option<&Write>
         ensures { option_copied result ≡ last_of self.now path.now }
     {
-        let place = self.places.get(path.text())?;
+        let place = self.places.get(path)?;
         self.writes.as_slice().get(*place)
     }
 
-    /// What stands at a path.
-    pub fn info(&self, alloc: Global, path: &PathName, form: Form) -> Result<Info, NoMemory>
+    /// What stands at the path of this text. It walks over no writes.
+    pub fn info(&self, alloc: Global, path: &str, form: Form) -> Result<Info, NoMemory>
         ensures { IfOk result (λ info. info ≡ info_of (last_of self.now path.now) form) }
     {
         match self.last(path) {

@@ -1,11 +1,13 @@
 // The outside as a build sees it: the law of commands, disks, worlds and sinks, and the orders that they are given.
 #![tactic(auto)]
 
+pub mod command;
 pub mod disk;
 pub mod files;
 pub mod law;
 pub mod laws;
 pub mod order;
 pub mod sink;
+pub mod toy;
 pub mod world;
 pub mod write;
