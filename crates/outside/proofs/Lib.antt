@@ -5,3 +5,4 @@ pub mod Logs
 pub mod Numbers
 pub mod Places
 pub mod Spelling
+pub mod Toys
