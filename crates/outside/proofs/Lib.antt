@@ -6,3 +6,4 @@ pub mod Numbers
 pub mod Places
 pub mod Spelling
 pub mod Toys
+pub mod Worlds

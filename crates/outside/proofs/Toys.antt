@@ -165,3 +165,12 @@ toy-does old order m found t exit formed unchanged is-found =
       gives = outputs ∙ ap (digests_from message 0) (ap length formed.is.outputs)
         ∙ ap (λ (d : List (NodeName × ReadContent)). digests_from (message_of order.signature d []) 0 (length (paths_of formed.meaning.outputs))) (sym reads);
     }
+
+-- the same of files that are those after the order
+pub toy-does-after : (old new : List Write) (order : Order) (m : List Known) (found : List (List ℕ)) → new ≡ performed old order → exit_of old order ≡ Code 0
+  → Tells new m → IsFormed order → Unchanged (at new) order → IsFound m (at new) order.deps found
+  → ToyDoes order.signature (read_contents m order.reads) (found_contents m (at new) order found) (contents_at m (at new) order)
+toy-does-after old new order m found same exit =
+    subst (λ (ws : List Write). Tells ws m → IsFormed order → Unchanged (at ws) order → IsFound m (at ws) order.deps found
+        → ToyDoes order.signature (read_contents m order.reads) (found_contents m (at ws) order found) (contents_at m (at ws) order))
+      (sym same) (λ t formed unchanged is. toy-does old order m found t exit formed unchanged is)

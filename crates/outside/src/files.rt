@@ -1,8 +1,10 @@
 //! Files in memory.
 ghost use Rattle.std.specs.Prelude.{◌≡◌, ◌+◌, [], ◌∷◌, ◌++◌, length, IfOk, OnOk, OnErr, option_map};
 ghost use Rattle.std.specs.Option.{option_copied};
-ghost use Rattle.outside.specs.Log.{last_of, info_of, put};
+ghost use Rattle.outside.specs.Log.{last_of, info_of, standing, put};
+ghost use Rattle.outside.specs.Reading.{bytes_of};
 
+use crate::disk::FileBytes;
 use crate::write::{What, Write};
 use file_info::copied::Copied;
 use file_info::info::{Form, Info};
@@ -77,6 +79,28 @@ impl Files {
                         text: text.copy(alloc)?,
                     }),
                 },
+            },
+        }
+    }
+
+    /// The bytes of the file at the path of this text, where there are at most `most` of them. It walks over no writes. A
+    /// link leads nowhere.
+    pub fn read(&self, alloc: Global, path: &str, most: u64) -> Result<FileBytes, NoMemory>
+        ensures { IfOk result (λ bytes. bytes ≡ bytes_of most (standing self.now path.now Form.Follow)) }
+    {
+        match self.last(path) {
+            None => Ok(FileBytes::Missing),
+            Some(write) => match &write.what {
+                What::Gone => Ok(FileBytes::Missing),
+                What::Dir => Ok(FileBytes::NotFile),
+                What::LinkText(_) => Ok(FileBytes::Missing),
+                What::Bytes(text) => {
+                    if text.len() as u64 <= most {
+                        Ok(FileBytes::Bytes(text.copy(alloc)?))
+                    } else {
+                        Ok(FileBytes::TooLong)
+                    }
+                }
             },
         }
     }

@@ -6,6 +6,7 @@ pub mod disk;
 pub mod files;
 pub mod law;
 pub mod laws;
+pub mod memory;
 pub mod order;
 pub mod sink;
 pub mod toy;
