@@ -53,7 +53,7 @@ In-take (q ∷ ps) zero p i = absurd i
 In-take (q ∷ ps) (suc k) p (inl e) = inl e
 In-take (q ∷ ps) (suc k) p (inr i) = inr (In-take ps k p i)
 
-went-put : (ps : List (List ℕ)) (old ws : List Write) (p : List ℕ) (x : What) → In p ps → is_directory (info_of (last_of old p) Link) ≡ false
+pub went-put : (ps : List (List ℕ)) (old ws : List Write) (p : List ℕ) (x : What) → In p ps → is_directory (info_of (last_of old p) Link) ≡ false
   → WentOn ps old ws → WentOn ps old (put ws p x)
 went-put ps old ws p x i free w =
     let item : Write = record { path = p; number = length ws + 1; what = x } in

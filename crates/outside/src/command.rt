@@ -37,8 +37,8 @@ fn same_text(text: &str, other: &str) -> bool
     text == other
 }
 
-// Whether a text stands among the paths.
-fn is_among(paths: &List<PathName>, text: &str) -> bool
+/// Whether a text stands among the paths.
+pub fn is_among(paths: &List<PathName>, text: &str) -> bool
     ensures { result ≡ stands_in paths.now text.now }
 {
     paths
@@ -260,8 +260,8 @@ fn has_read(read: &Read, path: &str) -> bool
     }
 }
 
-// Whether a directory stands at a path.
-fn stands_directory(files: &Files, path: &str) -> bool
+/// Whether a directory stands at a path.
+pub fn stands_directory(files: &Files, path: &str) -> bool
     ensures { result ≡ is_directory (info_of (last_of files.now path.now) Form.Link) }
 {
     match files.last(path) {

@@ -1,7 +1,7 @@
 //! Files in memory.
-ghost use Rattle.std.specs.Prelude.{◌≡◌, ◌+◌, [], ◌∷◌, ◌++◌, length, IfOk, OnOk, OnErr, option_map};
+ghost use Rattle.std.specs.Prelude.{◌≡◌, ◌+◌, [], ◌∷◌, ◌++◌, length, IfOk, OnOk, OnErr, IsTrue};
 ghost use Rattle.std.specs.Option.{option_copied};
-ghost use Rattle.outside.specs.Log.{last_of, info_of, standing, put};
+ghost use Rattle.outside.specs.Log.{last_of, info_of, standing, put, numbered_from};
 ghost use Rattle.outside.specs.Reading.{bytes_of};
 
 use crate::disk::FileBytes;
@@ -45,9 +45,10 @@ impl Files {
         Files { writes, places }
     }
 
-    /// All writes, the oldest first.
+    /// All writes, the oldest first. Their numbers rise from 1.
     pub fn writes(&self) -> &[Write]
-        ensures { result.now ≡ self.now }
+        ensures value { result.now ≡ self.now }
+        ensures numbered { IsTrue (numbered_from 1 self.now) }
     {
         self.writes.as_slice()
     }

@@ -3,12 +3,15 @@
 
 pub mod command;
 pub mod disk;
+pub mod edits;
+pub mod failing;
 pub mod files;
 pub mod law;
 pub mod laws;
 pub mod memory;
 pub mod order;
 pub mod sink;
+pub mod sinks;
 pub mod toy;
 pub mod world;
 pub mod write;

@@ -1,19 +1,27 @@
 //! A world in memory, in which toy commands run.
-ghost use Rattle.std.specs.Prelude.{◌≡◌, ◌<◌, ◌∷◌, ◌++◌, [], ℕ, length, IfOk, IfErr, OnOk, true, false};
+ghost use Rattle.std.specs.Prelude.{◌≡◌, ◌<◌, ◌∷◌, ◌++◌, [], ℕ, length, IfOk, IfErr, OnOk, OnErr, IsTrue, true, false, List as Items};
+ghost use Rattle.file_info.specs.Content.{Known, content};
+ghost use Rattle.file_info.specs.declared.info.Form.{Form};
 ghost use Rattle.file_info.specs.Lists.{In};
 ghost use Rattle.outside.specs.declared.order.Order.{Order};
 ghost use Rattle.outside.specs.Telling.{next_count};
 ghost use Rattle.outside.specs.Performed.{performed, exit_of, WentOn};
-ghost use Rattle.outside.specs.Memory.{is_failing, faults_after};
+ghost use Rattle.outside.specs.Log.{last_of, info_of, standing, Tells, numbered_from};
+ghost use Rattle.outside.specs.Memory.{is_failing, faults_after, map_of};
+ghost use Rattle.outside.specs.Edits.{way_to, after_set, after_dir, after_drop, with_writes};
 
 use crate::command::perform;
 use crate::disk::{Disk, DiskError, FileBytes};
+use crate::edits;
+use crate::failing::{count_up, next_fails};
 use crate::files::Files;
 use crate::order::{Ended, Order};
 use crate::toy::ToyLaw;
 use crate::world::World;
+use crate::write::Write;
 use file_info::info::{Form, Info};
-use file_info::list::List;
+use file_info::list::{Bytes, List};
+use file_info::memory::NoMemory;
 use file_info::path::PathName;
 use std::alloc::Global;
 use std::collections::VecDeque;
@@ -43,13 +51,6 @@ impl Model for MemoryWorld {
     ghost invariant = { λ w. w.failing ≡ [] → w.faults ≡ 0 };
 }
 
-// Whether the call of this number fails.
-fn fails(failing: &List<u64>, number: u64) -> bool
-    ensures { result ≡ is_failing failing.now number }
-{
-    failing.as_slice().iter().any(|one| *one == number)
-}
-
 // Counts a call, which fails where the list says so.
 fn count_call(calls: &mut u64, failing: &List<u64>, faults: &mut u64) -> Result<(), DiskError>
     ensures calls { calls.new ≡ next_count calls.old }
@@ -57,9 +58,8 @@ fn count_call(calls: &mut u64, failing: &List<u64>, faults: &mut u64) -> Result<
     ensures err { IfErr result (λ error. (error ≡ DiskError.Fault) × (is_failing failing.now calls.new ≡ true)) }
     ensures faults { faults.new ≡ faults_after failing.now calls.new faults.old }
 {
-    *calls = calls.saturating_add(1);
-    if fails(failing, *calls) {
-        *faults = faults.saturating_add(1);
+    if next_fails(calls, failing) {
+        count_up(faults);
         return Err(DiskError::Fault);
     }
     Ok(())
@@ -78,6 +78,46 @@ impl MemoryWorld {
             calls: 0,
             faults: 0,
         }
+    }
+
+    /// All writes, the oldest first. Their numbers rise from 1, so there is a map that tells them all, and where a map
+    /// tells them, the content that it gives at what stands is what stands.
+    pub fn writes(&self) -> &[Write]
+        ensures value { result.now ≡ self.now.writes }
+        ensures numbered { IsTrue (numbered_from 1 self.now.writes) }
+        ensures told { Tells self.now.writes (map_of self.now.writes) }
+        ensures contents { (m : Items Known) (p : Items ℕ) (f : Form) → Tells self.now.writes m → content m p (info_of (last_of self.now.writes p) f) ≡ standing self.now.writes p f }
+    {
+        self.files.writes()
+    }
+
+    /// Writes a file, and makes directories above it where nothing stands. Through a file or a link, and on a directory,
+    /// it does nothing. It is no call of a world: it is not counted and cannot fail but for want of memory, and then
+    /// some of the directories may be made.
+    pub fn set(&mut self, alloc: Global, path: &PathName, text: Bytes) -> Result<(), NoMemory>
+        ensures ok { OnOk result (self.new ≡ with_writes self.old (after_set self.old.writes path.now text)) }
+        ensures others { self.new ≡ with_writes self.old self.new.writes }
+        ensures went { WentOn (way_to path.now) self.old.writes self.new.writes }
+    {
+        edits::set(alloc, &mut self.files, path, text)
+    }
+
+    /// Makes a directory, and those above it where nothing stands. Through a file or a link, and on one, it does nothing.
+    /// It is not counted, as `set` is not.
+    pub fn dir(&mut self, alloc: Global, path: &PathName) -> Result<(), NoMemory>
+        ensures ok { OnOk result (self.new ≡ with_writes self.old (after_dir self.old.writes path.now)) }
+        ensures others { self.new ≡ with_writes self.old self.new.writes }
+        ensures went { WentOn (way_to path.now) self.old.writes self.new.writes }
+    {
+        edits::dir(alloc, &mut self.files, path)
+    }
+
+    /// Removes a file, a link or an empty directory. Where it cannot it does nothing. It is not counted, as `set` is not.
+    pub fn drop_path(&mut self, alloc: Global, path: &PathName) -> Result<(), NoMemory>
+        ensures ok { OnOk result (self.new ≡ with_writes self.old (after_drop self.old.writes path.now)) }
+        ensures err { OnErr result (self.new ≡ self.old) }
+    {
+        edits::drop_path(alloc, &mut self.files, path)
     }
 
     /// Whether some call may fail. Where none may, none has failed.
