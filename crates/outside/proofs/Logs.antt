@@ -73,8 +73,9 @@ last-in (v ∷ ws) p w e = go (last_of ws p) refl e (last-in ws p)
     one : (b : Bool) → same_list v.path p ≡ b → cond b (Some v) None ≡ Some w → In w (v ∷ ws) × (w.path ≡ p)
     one true h f = (let same : v ≡ w = cc f in (inl (sym same), ap (λ (z : Write). z.path) (sym same) ∙ same_list-true v.path p h))
     one false h f = cc f
+
     go : (o : Option Write) → last_of ws p ≡ o → later o (cond (same_list v.path p) (Some v) None) ≡ Some w
-      → ((w' : Write) → last_of ws p ≡ Some w' → In w' ws × (w'.path ≡ p)) → In w (v ∷ ws) × (w.path ≡ p)
+        → ((w' : Write) → last_of ws p ≡ Some w' → In w' ws × (w'.path ≡ p)) → In w (v ∷ ws) × (w.path ≡ p)
     go (Some u) h f ih = (let same : u ≡ w = cc f in let r = ih w (h ∙ ap Some same) in (inr r.0, r.1))
     go None h f ih = one (same_list v.path p) refl f
 

@@ -35,19 +35,19 @@ info-refl : (s n : ℕ) → same_info (File s (n ∷ 0 ∷ 0 ∷ 0 ∷ [])) (Fil
 info-refl s n = rw (eq-eqb s s refl, eq-eqb n n refl) refl
 
 at-own : (ws : List Write) (n : ℕ) → numbered_from n ws ≡ true → (w : Write) → In w ws
-  → text_at (map_of ws) w.path (File (length (text_of w.what)) (w.number ∷ 0 ∷ 0 ∷ 0 ∷ [])) ≡ text_of w.what
+    → text_at (map_of ws) w.path (File (length (text_of w.what)) (w.number ∷ 0 ∷ 0 ∷ 0 ∷ [])) ≡ text_of w.what
 at-own [] n h w i = absurd i
 at-own (v ∷ ws) n h w (inl e) =
     subst (λ (z : Write). text_at (map_of (v ∷ ws)) z.path (File (length (text_of z.what)) (z.number ∷ 0 ∷ 0 ∷ 0 ∷ [])) ≡ text_of z.what) (sym e)
-      (ap (λ (b : Bool). cond (b && same_info (File (length (text_of v.what)) (v.number ∷ 0 ∷ 0 ∷ 0 ∷ [])) (File (length (text_of v.what)) (v.number ∷ 0 ∷ 0 ∷ 0 ∷ []))) (text_of v.what) (text_at (map_of ws) v.path (File (length (text_of v.what)) (v.number ∷ 0 ∷ 0 ∷ 0 ∷ [])))) (same_list-refl v.path)
-      ∙ ap (λ (b : Bool). cond b (text_of v.what) (text_at (map_of ws) v.path (File (length (text_of v.what)) (v.number ∷ 0 ∷ 0 ∷ 0 ∷ [])))) (info-refl (length (text_of v.what)) v.number))
+    (ap (λ (b : Bool). cond (b && same_info (File (length (text_of v.what)) (v.number ∷ 0 ∷ 0 ∷ 0 ∷ [])) (File (length (text_of v.what)) (v.number ∷ 0 ∷ 0 ∷ 0 ∷ []))) (text_of v.what) (text_at (map_of ws) v.path (File (length (text_of v.what)) (v.number ∷ 0 ∷ 0 ∷ 0 ∷ [])))) (same_list-refl v.path)
+    ∙ ap (λ (b : Bool). cond b (text_of v.what) (text_at (map_of ws) v.path (File (length (text_of v.what)) (v.number ∷ 0 ∷ 0 ∷ 0 ∷ [])))) (info-refl (length (text_of v.what)) v.number))
 at-own (v ∷ ws) n h w (inr i) =
     let parts = both-true (eqb v.number n) (numbered_from (suc n) ws) h in
     let first = eqb-true v.number n parts.0 in
     let later = above ws (suc n) parts.1 w i in
     let apart : eqb v.number w.number ≡ false = eqb-less v.number w.number (omega arith) in
     ap (λ (b : Bool). cond b (text_of v.what) (text_at (map_of ws) w.path (File (length (text_of w.what)) (w.number ∷ 0 ∷ 0 ∷ 0 ∷ []))))
-      (and-false (same_list v.path w.path) (eqb (length (text_of v.what)) (length (text_of w.what))) (eqb v.number w.number) (same_list (0 ∷ 0 ∷ 0 ∷ []) (0 ∷ 0 ∷ 0 ∷ [])) apart)
+    (and-false (same_list v.path w.path) (eqb (length (text_of v.what)) (length (text_of w.what))) (eqb v.number w.number) (same_list (0 ∷ 0 ∷ 0 ∷ []) (0 ∷ 0 ∷ 0 ∷ [])) apart)
     ∙ at-own ws (suc n) parts.1 w i
 
 agrees : (m : List Known) (p : List ℕ) (n : ℕ) (x : What) → text_at m p (File (length (text_of x)) (n ∷ 0 ∷ 0 ∷ 0 ∷ [])) ≡ text_of x → AgreesAt m p n x

@@ -39,14 +39,14 @@ kept ws w p h None i = last-put_apart ws w p h ∙ i
 kept ws w p h (Some k) i = (i.0, get-first ws (w ∷ []) k i.0 i.1, last-put_apart ws w p h ∙ i.2)
 
 placed-put : (ws : List Write) (w : Write) (p q : List ℕ) (old : Option ℕ) → w.path ≡ p → IsPlaceOf ws q old
-  → (b : Bool) → bytes_eq p q ≡ b → IsPlaceOf (ws ++ w ∷ []) q (cond b (Some (length ws)) old)
+    → (b : Bool) → bytes_eq p q ≡ b → IsPlaceOf (ws ++ w ∷ []) q (cond b (Some (length ws)) old)
 placed-put ws w p q old h i true e =
     subst (λ (z : List ℕ). IsPlaceOf (ws ++ w ∷ []) z (Some (length ws))) (h ∙ (bytes_eq-Decides p q).0 e) (w, get-last ws w, last-put ws w)
 placed-put ws w p q old h i false e = kept ws w q (λ same. let equal : p ≡ q = sym h ∙ same in cc (e, (bytes_eq-Decides p q).1 equal)) old i
 
 -- one write more
 pub indexed-put : (ws : List Write) (p : List ℕ) (x : What) (old new : List ℕ → Option ℕ) → ((q : List ℕ) → new q ≡ update bytes_eq old p (Some (length ws)) q)
-  → IsIndexed ws old → IsIndexed (put ws p x) new
+    → IsIndexed ws old → IsIndexed (put ws p x) new
 indexed-put ws p x old new h i =
     let item : Write = record { path = p; number = length ws + 1; what = x } in
     record {

@@ -34,7 +34,7 @@ went-free ps old ws p w e = go (last_of w.more p) refl
     go : (o : Option Write) → last_of w.more p ≡ o → is_directory (info_of (last_of old p) Link) ≡ false
     go None h =
         let same : last_of ws p ≡ last_of old p =
-          ap (λ (z : List Write). last_of z p) w.is ∙ last-split old w.more p ∙ ap (λ (o : Option Write). later o (last_of old p)) h in
+        ap (λ (z : List Write). last_of z p) w.is ∙ last-split old w.more p ∙ ap (λ (o : Option Write). later o (last_of old p)) h in
         free-spared (last_of old p) (ap is_free (sym same) ∙ e)
     go (Some v) h =
         let found = last-in w.more p v h in
@@ -60,7 +60,7 @@ went_to p x old ws new free w e = subst (WentOn (way_to p) old) (sym e) (went-pu
 
 -- one directory more
 pub directories-step : (ws now new : List Write) (ps : List (List ℕ)) (k : ℕ) (p : List ℕ) → k < length ps → p ≡ get_or ps k p
-  → with_directories now (drop k ps) ≡ with_directories ws ps → new ≡ with_directory now p → with_directories new (drop (k + 1) ps) ≡ with_directories ws ps
+    → with_directories now (drop k ps) ≡ with_directories ws ps → new ≡ with_directory now p → with_directories new (drop (k + 1) ps) ≡ with_directories ws ps
 directories-step ws now new ps k p h is before after =
     let rest : drop k ps ≡ p ∷ drop (k + 1) ps = rw (add-one, drop-cons ps k p) (ap (λ (z : List ℕ). z ∷ drop (suc k) ps) (sym is)) in
     ap (λ (z : List Write). with_directories z (drop (k + 1) ps)) after ∙ ap (with_directories now) (sym rest) ∙ before
@@ -70,7 +70,7 @@ directories-end ws now ps k h e = ap (with_directories now) (sym (drop_all k ps 
 
 -- a file that is set stands
 pub set-stands : (ws : List Write) (p text : List ℕ) (f : Form) → leads_through ws (above p) ≡ false → is_directory (info_of (last_of ws p) Link) ≡ false
-  → standing (after_set ws p text) p f ≡ Text text
+    → standing (after_set ws p text) p f ≡ Text text
 set-stands ws p text f free none =
     let before = with_directories ws (above p) in
     let item : Write = record { path = p; number = length before + 1; what = Bytes text } in

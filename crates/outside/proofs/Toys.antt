@@ -45,7 +45,7 @@ digests-apart ws m k (q ∷ ps) p h =
 
 -- the outputs hold their digests
 digests-standing : (g : List ℕ → Form) (ws : List Write) (m : List ℕ) (k : ℕ) (ps : List (List ℕ)) → IsDistinct ps
-  → map (λ p. standing (put_digests ws m k ps) p (g p)) ps ≡ digests_from m k (length ps)
+    → map (λ p. standing (put_digests ws m k ps) p (g p)) ps ≡ digests_from m k (length ps)
 digests-standing g ws m k [] d = refl
 digests-standing g ws m k (p ∷ ps) d =
     let next = put ws p (Bytes (digest_of m k)) in
@@ -93,7 +93,7 @@ no-deps order e = go order.act order.deps (e)
 
 -- what was read at a path is no output
 not-output : (ws : List Write) (order : Order) → Succeeded ws order → (r : Read) → In r order.reads → (p : List ℕ)
-  → is_read (node_text r.node) r.reading p ≡ true → In p order.outputs → ⊥
+    → is_read (node_text r.node) r.reading p ≡ true → In p order.outputs → ⊥
 not-output ws order s r i p e o =
     let blocked = any-none (is_blocked ws order.reads) order.outputs s.free p o in
     let unread = any-none (λ (z : Read). is_read (node_text z.node) z.reading p) order.reads (or-false (is_directory (info_of (last_of ws p) Link)) _ blocked).1 r i in
@@ -113,22 +113,22 @@ any-in test (y ∷ xs) x (inr i) e = or-right (test y) (list_any test xs) (any-i
 
 -- the contents that were read are those that stood before
 reading-stood : (old new : List Write) (m : List Known) (links : List (List ℕ)) (path : List ℕ) (reading : Reading) → Tells new m
-  → ((p : List ℕ) → is_read path reading p ≡ true → last_of new p ≡ last_of old p)
-  → StandsAs (at new) links path reading → reading_content m path reading ≡ reading_at old links path reading
+    → ((p : List ℕ) → is_read path reading p ≡ true → last_of new p ≡ last_of old p)
+    → StandsAs (at new) links path reading → reading_content m path reading ≡ reading_at old links path reading
 reading-stood old new m links path readings.Nothing t kept stands = refl
 reading-stood old new m links path (readings.File info) t kept stands =
     ap One (ap (content m path) (sym stands) ∙ standing-told new m t path (form_of links path info)
-      ∙ ap (λ o. content_of o (form_of links path info)) (kept path (same_list-refl path)))
+    ∙ ap (λ o. content_of o (form_of links path info)) (kept path (same_list-refl path)))
 reading-stood old new m links path (readings.Tree entries) t kept stands =
     ap Entries (map-same {B = List ℕ × Content} (λ (e : TreeEntry). (e.path, content m e.path e.info)) (entry_at old links) entries (λ e i.
-      let form = form_of links e.path e.info in
-      let here : is_read path (readings.Tree entries) e.path ≡ true =
-        or-right (same_list path e.path) _ (any-in (λ z. same_list z.path e.path) entries e i (same_list-refl e.path)) in
-      ap (λ (c : Content). (e.path, c)) (ap (content m e.path) (sym (stands e i)) ∙ standing-told new m t e.path form ∙ ap (λ o. content_of o form) (kept e.path here))))
+    let form = form_of links e.path e.info in
+    let here : is_read path (readings.Tree entries) e.path ≡ true =
+    or-right (same_list path e.path) _ (any-in (λ z. same_list z.path e.path) entries e i (same_list-refl e.path)) in
+    ap (λ (c : Content). (e.path, c)) (ap (content m e.path) (sym (stands e i)) ∙ standing-told new m t e.path form ∙ ap (λ o. content_of o form) (kept e.path here))))
 reading-stood old new m links path (readings.Structure entries) t kept stands = refl
 
 any-map : (ws : List Write) (links : List (List ℕ)) (reads : List Read)
-  → fails (map (read_at ws links) reads) ≡ list_any (λ (r : Read). reading_fails (reading_at ws links (node_text r.node) r.reading)) reads
+    → fails (map (read_at ws links) reads) ≡ list_any (λ (r : Read). reading_fails (reading_at ws links (node_text r.node) r.reading)) reads
 any-map ws links [] = refl
 any-map ws links (r ∷ reads) = ap (λ (b : Bool). reading_fails (reading_at ws links (node_text r.node) r.reading) || b) (any-map ws links reads)
 
@@ -136,8 +136,8 @@ nothing-found : (m : List Known) (at : List ℕ → Form → Info) (order : Orde
 nothing-found m at order found e f = subst (λ (deps : List (List ℕ)). IsFound m at deps found) e f
 
 pub toy-does : (old : List Write) (order : Order) (m : List Known) (found : List (List ℕ)) → Tells (performed old order) m → exit_of old order ≡ Code 0 → IsFormed order
-  → Unchanged (at (performed old order)) order → IsFound m (at (performed old order)) order.deps found
-  → ToyDoes order.signature (read_contents m order.reads) (found_contents m (at (performed old order)) order found) (contents_at m (at (performed old order)) order)
+    → Unchanged (at (performed old order)) order → IsFound m (at (performed old order)) order.deps found
+    → ToyDoes order.signature (read_contents m order.reads) (found_contents m (at (performed old order)) order found) (contents_at m (at (performed old order)) order)
 toy-does old order m found t exit formed unchanged is-found =
     let good = code-zero old order exit in
     let s = succeeded old order good in
@@ -145,17 +145,17 @@ toy-does old order m found t exit formed unchanged is-found =
     let new = performed old order in
     let is : new ≡ put_digests old message 0 order.outputs = ap (λ (b : Bool). if b then put_digests old message 0 order.outputs else old) good in
     let kept : (p : List ℕ) → (In p order.outputs → ⊥) → last_of new p ≡ last_of old p =
-      λ p h. ap (λ (ws : List Write). last_of ws p) is ∙ digests-apart old message 0 order.outputs p h in
+    λ p h. ap (λ (ws : List Write). last_of ws p) is ∙ digests-apart old message 0 order.outputs p h in
     let reads : read_contents m order.reads ≡ reads_at old order =
-      map-same {B = NodeName × ReadContent} (λ (r : Read). (r.node, reading_content m (node_text r.node) r.reading)) (read_at old order.links) order.reads
-        (λ r i. ap (λ (c : ReadContent). (r.node, c)) (reading-stood old new m order.links (node_text r.node) r.reading t
-          (λ p e. kept p (not-output old order s r i p e)) (unchanged r i))) in
+    map-same {B = NodeName × ReadContent} (λ (r : Read). (r.node, reading_content m (node_text r.node) r.reading)) (read_at old order.links) order.reads
+    (λ r i. ap (λ (c : ReadContent). (r.node, c)) (reading-stood old new m order.links (node_text r.node) r.reading t
+    (λ p e. kept p (not-output old order s r i p e)) (unchanged r i))) in
     let found-none = nothing-found m (at new) order found (no-deps order s.served) is-found in
     let distinct = formed.is.distinct in
     let outputs : contents_at m (at new) order ≡ digests_from message 0 (length order.outputs) =
-      map-same (λ p. content m p (at new p (output_form order p))) (λ p. standing new p (output_form order p)) order.outputs (λ p i. standing-told new m t p (output_form order p))
-      ∙ ap (λ (ws : List Write). map (λ p. standing ws p (output_form order p)) order.outputs) is
-      ∙ digests-standing (output_form order) old message 0 order.outputs distinct in
+    map-same (λ p. content m p (at new p (output_form order p))) (λ p. standing new p (output_form order p)) order.outputs (λ p i. standing-told new m t p (output_form order p))
+    ∙ ap (λ (ws : List Write). map (λ p. standing ws p (output_form order p)) order.outputs) is
+    ∙ digests-standing (output_form order) old message 0 order.outputs distinct in
     record {
       meaning = formed.meaning;
       is = formed.is.signature;
@@ -163,14 +163,14 @@ toy-does old order m found t exit formed unchanged is-found =
       finds = ap (λ (ps : List (List ℕ)). found_contents m (at new) order ps) found-none;
       well = ap fails reads ∙ any-map old order.links order.reads ∙ s.well;
       gives = outputs ∙ ap (digests_from message 0) (ap length formed.is.outputs)
-        ∙ ap (λ (d : List (NodeName × ReadContent)). digests_from (message_of order.signature d []) 0 (length (paths_of formed.meaning.outputs))) (sym reads);
+          ∙ ap (λ (d : List (NodeName × ReadContent)). digests_from (message_of order.signature d []) 0 (length (paths_of formed.meaning.outputs))) (sym reads);
     }
 
 -- the same of files that are those after the order
 pub toy-does-after : (old new : List Write) (order : Order) (m : List Known) (found : List (List ℕ)) → new ≡ performed old order → exit_of old order ≡ Code 0
-  → Tells new m → IsFormed order → Unchanged (at new) order → IsFound m (at new) order.deps found
-  → ToyDoes order.signature (read_contents m order.reads) (found_contents m (at new) order found) (contents_at m (at new) order)
+    → Tells new m → IsFormed order → Unchanged (at new) order → IsFound m (at new) order.deps found
+    → ToyDoes order.signature (read_contents m order.reads) (found_contents m (at new) order found) (contents_at m (at new) order)
 toy-does-after old new order m found same exit =
     subst (λ (ws : List Write). Tells ws m → IsFormed order → Unchanged (at ws) order → IsFound m (at ws) order.deps found
-        → ToyDoes order.signature (read_contents m order.reads) (found_contents m (at ws) order found) (contents_at m (at ws) order))
-      (sym same) (λ t formed unchanged is. toy-does old order m found t exit formed unchanged is)
+    → ToyDoes order.signature (read_contents m order.reads) (found_contents m (at ws) order found) (contents_at m (at ws) order))
+    (sym same) (λ t formed unchanged is. toy-does old order m found t exit formed unchanged is)

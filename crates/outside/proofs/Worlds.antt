@@ -26,7 +26,7 @@ keeps_writes old new e = record { infos = λ t. t; contents = λ m t. subst (λ 
 
 -- what is read is what the map gives
 pub read-told : (ws was : List Write) (m : List Known) (p : List ℕ) (most : ℕ) (b : FileBytes) → Tells ws m → ws ≡ was → b ≡ bytes_of most (standing ws p Follow)
-  → b ≡ bytes_of most (content m p (info_of (last_of was p) Follow))
+    → b ≡ bytes_of most (content m p (info_of (last_of was p) Follow))
 read-told ws was m p most b t same e =
     e ∙ ap (bytes_of most) (sym (standing-told ws m t p Follow)) ∙ ap (λ (z : List Write). bytes_of most (content m p (info_of (last_of z p) Follow))) same
 
@@ -40,7 +40,7 @@ went-apart ps old new w p apart =
 
 -- only outputs of the order changed
 pub went-same : (order : Order) (orders : List Order) (old new : List Write) → In order orders → WentOn order.outputs old new
-  → SameBut orders (λ p f. info_of (last_of old p) f) (λ p f. info_of (last_of new p) f)
+    → SameBut orders (λ p f. info_of (last_of old p) f) (λ p f. info_of (last_of new p) f)
 went-same order orders old new i w p f apart =
     ap (λ (o : Option Write). info_of o f) (went-apart order.outputs old new w p (λ j. apart (order, i, inl j)))
 

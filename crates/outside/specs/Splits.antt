@@ -46,16 +46,16 @@ count-splits m n r s h k e =
 
 text-splits : Splits text_bytes
 text-splits = record {
-    some = λ t. omega (arith, length-append (count_bytes (length t)) t, count-length (length t));
-    once = λ t u r s h k e.
+  some = λ t. omega (arith, length-append (count_bytes (length t)) t, count-length (length t));
+  once = λ t u r s h k e.
       let long = length-append (count_bytes (length t)) t in
       let long' = length-append (count_bytes (length u)) u in
       let four = count-length (length t) in
       let four' = count-length (length u) in
       let counts = count-splits (length t) (length u) (t ++ r) (u ++ s) (omega arith) (omega arith)
-        (sym (append_assoc (count_bytes (length t)) t r) ∙ e ∙ append_assoc (count_bytes (length u)) u s) in
+      (sym (append_assoc (count_bytes (length t)) t r) ∙ e ∙ append_assoc (count_bytes (length u)) u s) in
       even-parts t u r s counts.first counts.rest;
-  }
+}
 
 -- as many bytes as items, at least
 items-some : {A : Type 0} (f : A → List ℕ) → Splits f → (xs : List A) → length xs ≤ length (items_bytes f xs)
@@ -63,7 +63,7 @@ items-some f p [] = omega arith
 items-some f p (x ∷ xs) = omega (arith, p.some x, items-some f p xs, length-append (f x) (items_bytes f xs))
 
 items-split : {A : Type 0} (f : A → List ℕ) → Splits f → (xs ys : List A) (r s : List ℕ) → length xs ≡ length ys
-  → length (items_bytes f xs) < 2 ^ 32 → length (items_bytes f ys) < 2 ^ 32 → items_bytes f xs ++ r ≡ items_bytes f ys ++ s → Same xs ys r s
+    → length (items_bytes f xs) < 2 ^ 32 → length (items_bytes f ys) < 2 ^ 32 → items_bytes f xs ++ r ≡ items_bytes f ys ++ s → Same xs ys r s
 items-split f p [] [] r s n h k e = record { first = refl; rest = e }
 items-split f p [] (y ∷ ys) r s n h k e = absurd (omega arith)
 items-split f p (x ∷ xs) [] r s n h k e = absurd (omega arith)
@@ -71,14 +71,14 @@ items-split f p (x ∷ xs) (y ∷ ys) r s n h k e =
     let long = length-append (f x) (items_bytes f xs) in
     let long' = length-append (f y) (items_bytes f ys) in
     let head = p.once x y (items_bytes f xs ++ r) (items_bytes f ys ++ s) (omega arith) (omega arith)
-      (sym (append_assoc (f x) (items_bytes f xs) r) ∙ e ∙ append_assoc (f y) (items_bytes f ys) s) in
+    (sym (append_assoc (f x) (items_bytes f xs) r) ∙ e ∙ append_assoc (f y) (items_bytes f ys) s) in
     let tail = items-split f p xs ys r s (omega arith) (omega arith) (omega arith) head.rest in
     record { first = cc (head.first, tail.first); rest = tail.rest }
 
 list-splits : {A : Type 0} (f : A → List ℕ) → Splits f → Splits (list_bytes f)
 list-splits f p = record {
-    some = λ xs. omega (arith, length-append (count_bytes (length xs)) (items_bytes f xs), count-length (length xs));
-    once = λ xs ys r s h k e.
+  some = λ xs. omega (arith, length-append (count_bytes (length xs)) (items_bytes f xs), count-length (length xs));
+  once = λ xs ys r s h k e.
       let long = length-append (count_bytes (length xs)) (items_bytes f xs) in
       let long' = length-append (count_bytes (length ys)) (items_bytes f ys) in
       let many = items-some f p xs in
@@ -86,9 +86,9 @@ list-splits f p = record {
       let four = count-length (length xs) in
       let four' = count-length (length ys) in
       let counts = count-splits (length xs) (length ys) (items_bytes f xs ++ r) (items_bytes f ys ++ s) (omega arith) (omega arith)
-        (sym (append_assoc (count_bytes (length xs)) (items_bytes f xs) r) ∙ e ∙ append_assoc (count_bytes (length ys)) (items_bytes f ys) s) in
+      (sym (append_assoc (count_bytes (length xs)) (items_bytes f xs) r) ∙ e ∙ append_assoc (count_bytes (length ys)) (items_bytes f ys) s) in
       items-split f p xs ys r s counts.first (omega arith) (omega arith) counts.rest;
-  }
+}
 
 node-splits : Splits node_bytes
 node-splits = record { some = some-node; once = once-node }
@@ -96,6 +96,7 @@ node-splits = record { some = some-node; once = once-node }
     some-node : (x : NodeName) → 1 ≤ length (node_bytes x)
     some-node (Path p) = omega arith
     some-node (Virtual n) = omega arith
+
     once-node : (x y : NodeName) (r s : List ℕ) → length (node_bytes x) < 2 ^ 32 → length (node_bytes y) < 2 ^ 32 → node_bytes x ++ r ≡ node_bytes y ++ s → Same x y r s
     once-node (Path p) (Path q) r s h k e =
         let rest : text_bytes p ++ r ≡ text_bytes q ++ s = cc e in
@@ -110,7 +111,7 @@ node-splits = record { some = some-node; once = once-node }
 
 -- one spelling behind another
 both-split : {A B : Type 0} (f : A → List ℕ) (g : B → List ℕ) → Splits f → Splits g → (x y : A) (u v : B) (r s : List ℕ)
-  → length (f x ++ g u) < 2 ^ 32 → length (f y ++ g v) < 2 ^ 32 → (f x ++ g u) ++ r ≡ (f y ++ g v) ++ s → Same x y (g u ++ r) (g v ++ s) × Same u v r s
+    → length (f x ++ g u) < 2 ^ 32 → length (f y ++ g v) < 2 ^ 32 → (f x ++ g u) ++ r ≡ (f y ++ g v) ++ s → Same x y (g u ++ r) (g v ++ s) × Same u v r s
 both-split f g p q x y u v r s h k e =
     let long = length-append (f x) (g u) in
     let long' = length-append (f y) (g v) in
@@ -127,6 +128,7 @@ key-splits = record { some = some-key; once = once-key }
     some-key (NodeKey n) = omega arith
     some-key (TreeKey p ps) = omega arith
     some-key (StructureKey p ps) = omega arith
+
     once-key : (x y : InputKey) (r s : List ℕ) → length (key_bytes x) < 2 ^ 32 → length (key_bytes y) < 2 ^ 32 → key_bytes x ++ r ≡ key_bytes y ++ s → Same x y r s
     once-key (NodeKey m) (NodeKey n) r s h k e =
         let rest : node_bytes m ++ r ≡ node_bytes n ++ s = cc e in
@@ -153,14 +155,14 @@ key-splits = record { some = some-key; once = once-key }
 
 env-splits : Splits env_bytes
 env-splits = record {
-    some = λ x. omega (arith, text-splits.some x.name, length-append (text_bytes x.name) (text_bytes x.text));
-    once = λ x y r s h k e.
+  some = λ x. omega (arith, text-splits.some x.name, length-append (text_bytes x.name) (text_bytes x.text));
+  once = λ x y r s h k e.
       let both = both-split text_bytes text_bytes text-splits text-splits x.name y.name x.text y.text r s h k e in
       let one : x.name ≡ y.name = both.0.first in
       let two : x.text ≡ y.text = both.1.first in
       let made : List ℕ → List ℕ → EnvText = λ name text. record { name = name; text = text } in
       record { first = ap (λ name. made name x.text) one ∙ ap (made y.name) two; rest = both.1.rest };
-  }
+}
 
 flag-splits : Splits flag_bytes
 flag-splits = record { some = some-flag; once = once-flag }
@@ -168,6 +170,7 @@ flag-splits = record { some = some-flag; once = once-flag }
     some-flag : (x : Bool) → 1 ≤ length (flag_bytes x)
     some-flag false = omega arith
     some-flag true = omega arith
+
     once-flag : (x y : Bool) (r s : List ℕ) → length (flag_bytes x) < 2 ^ 32 → length (flag_bytes y) < 2 ^ 32 → flag_bytes x ++ r ≡ flag_bytes y ++ s → Same x y r s
     once-flag false false r s h k e = record { first = refl; rest = cc e }
     once-flag true true r s h k e = record { first = refl; rest = cc e }
@@ -212,20 +215,20 @@ six-right a b c d e f = simp append_assoc
 
 -- the ends of two signatures of one group
 flag-texts-same : (i j : Bool) (d e : List (List ℕ)) → length (flag_bytes i ++ list_bytes text_bytes d) < 2 ^ 32
-  → flag_bytes i ++ list_bytes text_bytes d ≡ flag_bytes j ++ list_bytes text_bytes e → (i ≡ j) × (d ≡ e)
+    → flag_bytes i ++ list_bytes text_bytes d ≡ flag_bytes j ++ list_bytes text_bytes e → (i ≡ j) × (d ≡ e)
 flag-texts-same i j d e h f =
     let flag = left-of flag_bytes flag-splits i j (list_bytes text_bytes d) (list_bytes text_bytes e) h f in
     (flag.first, last-of (list_bytes text_bytes) texts-split d e flag.short flag.rest)
 
 words-same : (v w : List (List ℕ)) (x y : List EnvText) (i j : Bool) (d e : List (List ℕ))
-  → length (list_bytes text_bytes v ++ list_bytes env_bytes x ++ flag_bytes i ++ list_bytes text_bytes d) < 2 ^ 32
-  → list_bytes text_bytes v ++ list_bytes env_bytes x ++ flag_bytes i ++ list_bytes text_bytes d ≡ list_bytes text_bytes w ++ list_bytes env_bytes y ++ flag_bytes j ++ list_bytes text_bytes e
-  → (v ≡ w) × (x ≡ y) × (i ≡ j) × (d ≡ e)
+    → length (list_bytes text_bytes v ++ list_bytes env_bytes x ++ flag_bytes i ++ list_bytes text_bytes d) < 2 ^ 32
+    → list_bytes text_bytes v ++ list_bytes env_bytes x ++ flag_bytes i ++ list_bytes text_bytes d ≡ list_bytes text_bytes w ++ list_bytes env_bytes y ++ flag_bytes j ++ list_bytes text_bytes e
+    → (v ≡ w) × (x ≡ y) × (i ≡ j) × (d ≡ e)
 words-same v w x y i j d e h f =
     let right = four-right (list_bytes text_bytes v) (list_bytes env_bytes x) (flag_bytes i) (list_bytes text_bytes d) in
     let right' = four-right (list_bytes text_bytes w) (list_bytes env_bytes y) (flag_bytes j) (list_bytes text_bytes e) in
     let words = left-of (list_bytes text_bytes) texts-split v w (list_bytes env_bytes x ++ (flag_bytes i ++ list_bytes text_bytes d)) (list_bytes env_bytes y ++ (flag_bytes j ++ list_bytes text_bytes e))
-      (subst Short right h) (sym right ∙ f ∙ right') in
+    (subst Short right h) (sym right ∙ f ∙ right') in
     let env = left-of (list_bytes env_bytes) envs-split x y (flag_bytes i ++ list_bytes text_bytes d) (flag_bytes j ++ list_bytes text_bytes e) words.short words.rest in
     let ends = flag-texts-same i j d e env.short env.rest in
     (words.first, env.first, ends.0, ends.1)
@@ -276,7 +279,7 @@ signature-tail c = ap (λ z. group_of c.tool ∷ z) (six-right (list_bytes key_b
 
 -- equal parts make equal wholes
 joined : {A B C D E F G : Type 0} (f : A → B → C → D → E → F → G) {a a' : A} {b b' : B} {c c' : C} {d d' : D} {e e' : E} {g g' : F}
-  → a ≡ a' → b ≡ b' → c ≡ c' → d ≡ d' → e ≡ e' → g ≡ g' → f a b c d e g ≡ f a' b' c' d' e' g'
+    → a ≡ a' → b ≡ b' → c ≡ c' → d ≡ d' → e ≡ e' → g ≡ g' → f a b c d e g ≡ f a' b' c' d' e' g'
 joined f h i j k l m = cc
 
 -- equal signatures have equal meanings

@@ -83,7 +83,7 @@ pub record ToyDoes (signature : List ℕ) (reads : List (NodeName × ReadContent
   pub gives : outputs ≡ digests_from (message_of signature reads []) 0 (length (paths_of meaning.outputs))
 
 pub toy-function : (s : List ℕ) (d : List (NodeName × ReadContent)) (w v : List (List ℕ × Content)) (o q : List Content)
-  → ToyDoes s d w o → ToyDoes s d v q → Agree w v → (w ≡ v) × (o ≡ q)
+    → ToyDoes s d w o → ToyDoes s d v q → Agree w v → (w ≡ v) × (o ≡ q)
 toy-function s d w v o q a b agree =
     let same : a.meaning ≡ b.meaning = signature-once a.meaning b.meaning (sym a.is ∙ b.is) a.short in
     (a.finds ∙ sym b.finds, a.gives ∙ ap (λ (m : Meaning). digests_from (message_of s d []) 0 (length (paths_of m.outputs))) same ∙ sym b.gives)

@@ -10,7 +10,9 @@ ghost use Rattle.outside.specs.Performed.{entry_at, reading_at, read_at, reads_a
 
 use crate::files::Files;
 use crate::order::{Act, Exit, Order};
-use crate::toy::{add_all, add_byte, add_count, add_node, add_text, byte_of, digest, has_fail_line};
+use crate::toy::{
+    add_all, add_byte, add_count, add_node, add_text, byte_of, digest, has_fail_line,
+};
 use crate::write::What;
 use file_info::copied::Copied;
 use file_info::info::{Form, Info};
@@ -64,12 +66,7 @@ fn asked_form(links: &List<PathName>, text: &str, info: &Info) -> Form
 }
 
 // Adds what stands at a path.
-fn add_content(
-    out: &mut Vec<u8>,
-    files: &Files,
-    path: &str,
-    form: Form,
-) -> Result<(), NoMemory>
+fn add_content(out: &mut Vec<u8>, files: &Files, path: &str, form: Form) -> Result<(), NoMemory>
     ensures { OnOk result (out.new.items ≡ out.old.items ++ content_bytes (standing files.now path.now form)) }
 {
     match files.last(path) {

@@ -55,11 +55,7 @@ fn before(text: &str, place: usize) -> &str
     requires { IsCharBoundary text.now place }
     ensures { result.now ≡ front (take place text.now) }
 {
-    if place == 0 {
-        "/"
-    } else {
-        &text[..place]
-    }
+    if place == 0 { "/" } else { &text[..place] }
 }
 
 // Adds the directory whose text ends at this byte, if one does.
@@ -143,11 +139,7 @@ fn add_directory(alloc: Global, files: &mut Files, path: &PathName) -> Result<()
 }
 
 // Makes directories where nothing stands.
-fn add_directories(
-    alloc: Global,
-    files: &mut Files,
-    paths: &List<PathName>,
-) -> Result<(), NoMemory>
+fn add_directories(alloc: Global, files: &mut Files, paths: &List<PathName>) -> Result<(), NoMemory>
     ensures ok { OnOk result (files.new ≡ with_directories files.old paths.now) }
     ensures went { WentOn paths.now files.old files.new }
 {
@@ -159,12 +151,7 @@ fn add_directories(
 
 /// Writes a file, and directories above it where nothing stands. Through a file or a link, and on a directory, it does
 /// nothing. Without memory some of the directories may be made.
-pub fn set(
-    alloc: Global,
-    files: &mut Files,
-    path: &PathName,
-    text: Bytes,
-) -> Result<(), NoMemory>
+pub fn set(alloc: Global, files: &mut Files, path: &PathName, text: Bytes) -> Result<(), NoMemory>
     ensures ok { OnOk result (files.new ≡ after_set files.old path.now text) }
     ensures went { WentOn (way_to path.now) files.old files.new }
 {

@@ -12,6 +12,8 @@ pub mod memory;
 pub mod order;
 pub mod sink;
 pub mod sinks;
+#[cfg(test)]
+mod tests;
 pub mod toy;
 pub mod world;
 pub mod write;

@@ -120,6 +120,13 @@ impl MemoryWorld {
         edits::drop_path(alloc, &mut self.files, path)
     }
 
+    /// How often a call has failed.
+    pub fn faults(&self) -> u64
+        ensures { result ≡ self.now.faults }
+    {
+        self.faults
+    }
+
     /// Whether some call may fail. Where none may, none has failed.
     pub fn may_fail(&self) -> bool
         ensures empty { result ≡ false → self.now.failing ≡ [] }

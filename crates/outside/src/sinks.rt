@@ -48,6 +48,13 @@ impl VecSink {
     {
         self.written.as_slice()
     }
+
+    /// How often a call has failed.
+    pub fn faults(&self) -> u64
+        ensures { result ≡ self.now.faults }
+    {
+        self.faults
+    }
 }
 
 // Adds a piece within the room.

@@ -90,7 +90,8 @@ pub fn byte_of(kind: Kind) -> u8
 pub fn has_fail_line(text: &[u8]) -> bool
     ensures { result ≡ has_fail text.now }
 {
-    text.split(|byte| *byte == b'\n').any(|line| line == b"fail".as_slice())
+    text.split(|byte| *byte == b'\n')
+        .any(|line| line == b"fail".as_slice())
 }
 
 /// The bytes of the output at this place.

@@ -12,5 +12,5 @@ loop-entry-preserved c = items-more (λ (e : TreeEntry). entry_bytes (entry_at c
 pub returns : goal.returns
 returns c =
     list-whole (λ (e : TreeEntry). entry_bytes (entry_at c.args.files.now c.args.links.now e)) c.as_slice-entry-items.result.now c.args.entries.now c.loop-entry.entry-index c.len.result
-      c.args.out.now.items c.add_count.new.out.items c.loop-entry.out.items c.loop-entry-test.false c.as_slice-entry-items.ensures c.len.ensures c.in_ok-add_count.ensures c.loop-entry.invariant
+    c.args.out.now.items c.add_count.new.out.items c.loop-entry.out.items c.loop-entry-test.false c.as_slice-entry-items.ensures c.len.ensures c.in_ok-add_count.ensures c.loop-entry.invariant
     ∙ ap (λ z. c.args.out.now.items ++ z) (sym (list-map entry_bytes (entry_at c.args.files.now c.args.links.now) c.args.entries.now))

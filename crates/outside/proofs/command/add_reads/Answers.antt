@@ -12,5 +12,5 @@ loop-read-preserved c = items-more (λ (r : Read). read_bytes (read_at c.args.fi
 pub returns : goal.returns
 returns c =
     list-whole (λ (r : Read). read_bytes (read_at c.args.files.now c.args.order.now.links r)) c.as_slice-read-items.result.now c.args.order.now.reads c.loop-read.read-index c.len.result
-      c.args.out.now.items c.add_count.new.out.items c.loop-read.out.items c.loop-read-test.false c.as_slice-read-items.ensures c.len.ensures c.in_ok-add_count.ensures c.loop-read.invariant
+    c.args.out.now.items c.add_count.new.out.items c.loop-read.out.items c.loop-read-test.false c.as_slice-read-items.ensures c.len.ensures c.in_ok-add_count.ensures c.loop-read.invariant
     ∙ ap (λ z. c.args.out.now.items ++ z) (sym (list-map read_bytes (read_at c.args.files.now c.args.order.now.links) c.args.order.now.reads))

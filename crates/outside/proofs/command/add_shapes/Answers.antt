@@ -10,4 +10,4 @@ loop-entry-preserved c = items-more shape_bytes c.as_slice-entry-items.result.no
 pub returns : goal.returns
 returns c =
     list-whole shape_bytes c.as_slice-entry-items.result.now c.args.entries.now c.loop-entry.entry-index c.len.result
-      c.args.out.now.items c.add_count.new.out.items c.loop-entry.out.items c.loop-entry-test.false c.as_slice-entry-items.ensures c.len.ensures c.in_ok-add_count.ensures c.loop-entry.invariant
+    c.args.out.now.items c.add_count.new.out.items c.loop-entry.out.items c.loop-entry-test.false c.as_slice-entry-items.ensures c.len.ensures c.in_ok-add_count.ensures c.loop-entry.invariant

@@ -10,4 +10,4 @@ use Rattle.outside.proofs.command.perform.Goals as goal
 pub write_outputs-requires : goal.write_outputs-requires
 write_outputs-requires c =
     any-less (λ p. is_directory (info_of (last_of c.args.files.now p) Link)) (is_blocked c.args.files.now c.args.order.now.reads) c.args.order.now.outputs
-      (λ p e. (or-false (is_directory (info_of (last_of c.args.files.now p) Link)) _ e).0) (sym c.any_blocked.ensures ∙ c.if-any_blocked.false)
+    (λ p e. (or-false (is_directory (info_of (last_of c.args.files.now p) Link)) _ e).0) (sym c.any_blocked.ensures ∙ c.if-any_blocked.false)

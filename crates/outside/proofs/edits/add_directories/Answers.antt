@@ -15,5 +15,5 @@ loop-path-preserved c =
     record {
       rest = directories-step c.args.files.now c.loop-path.files c.add_directory.new.files ps c.loop-path.path-index c.path-item.result below is c.loop-path.invariant.rest c.in_ok-add_directory.ensures.ok;
       went = subst (λ (ws : List Write). WentOn ps c.args.files.now ws) (sym c.in_ok-add_directory.ensures.ok)
-        (went-directory ps c.args.files.now c.loop-path.files c.path-item.result here c.loop-path.invariant.went);
+          (went-directory ps c.args.files.now c.loop-path.files c.path-item.result here c.loop-path.invariant.went);
     }

@@ -22,4 +22,4 @@ returns-clause-went c =
     let free : is_directory (info_of (last_of c.args.files.now c.args.path.now) Link) ≡ false = search rules in
     let done : c.put.new.self ≡ put c.add_directories.new.files c.args.path.now (Bytes c.args.text) = search rules in
     went_to c.args.path.now (Bytes c.args.text) c.args.files.now c.add_directories.new.files c.put.new.self free
-      (went_above _ c.args.path.now c.args.files.now c.add_directories.new.files c.in_ok-above.ensures c.add_directories.ensures.went) done
+    (went_above _ c.args.path.now c.args.files.now c.add_directories.new.files c.in_ok-above.ensures c.add_directories.ensures.went) done

@@ -16,8 +16,8 @@ invariant_of-self-2 c =
     let place : length c.as_slice-place.result.now ≡ length ws = search rules in
     let old = λ (p : List ℕ). get_by_text c.self.inside.places p in
     subst (λ (z : List Write). IsIndexed z (λ p. get_by_text c.insert.new.self p)) (sym pushed)
-      (indexed-put ws c.args.path c.args.what old (λ p. get_by_text c.insert.new.self p)
-        (λ q. hash_map_updates_text (string_bytes c.in_ok-key.key) c.self.inside.places c.insert.new.self (Some (length c.as_slice-place.result.now)) c.in_ok-insert.ensures.updates q
-          ∙ ap (λ (b : List ℕ). update bytes_eq old b (Some (length c.as_slice-place.result.now)) q) key
-          ∙ ap (λ (n : ℕ). update bytes_eq old c.args.path (Some n) q) place)
-        c.self.invariant)
+    (indexed-put ws c.args.path c.args.what old (λ p. get_by_text c.insert.new.self p)
+    (λ q. hash_map_updates_text (string_bytes c.in_ok-key.key) c.self.inside.places c.insert.new.self (Some (length c.as_slice-place.result.now)) c.in_ok-insert.ensures.updates q
+    ∙ ap (λ (b : List ℕ). update bytes_eq old b (Some (length c.as_slice-place.result.now)) q) key
+    ∙ ap (λ (n : ℕ). update bytes_eq old c.args.path (Some n) q) place)
+    c.self.invariant)

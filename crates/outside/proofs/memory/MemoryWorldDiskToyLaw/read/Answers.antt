@@ -9,4 +9,4 @@ use Rattle.outside.proofs.memory.MemoryWorldDiskToyLaw.read.Goals as goal
 pub returns-clause-bytes : goal.returns-clause-bytes
 returns-clause-bytes c m t =
     read-told c.self.inside.files c.args.self.now.writes m c.args.path.now c.args.most c.in_ok-bytes.bytes t (ap (λ (w : Memory). w.writes) c.self.view_is)
-      (c.in_ok-bytes.ensures ∙ ap (λ (p : List ℕ). bytes_of c.args.most (standing c.self.inside.files p Follow)) c.text.ensures.value)
+    (c.in_ok-bytes.ensures ∙ ap (λ (p : List ℕ). bytes_of c.args.most (standing c.self.inside.files p Follow)) c.text.ensures.value)

@@ -17,7 +17,7 @@ returns-in-Err-clause-keeps c = keeps_writes _ _ (ap (λ (w : Memory). w.writes)
 pub returns-in-Ok-clause-ok : goal.returns-in-Ok-clause-ok
 returns-in-Ok-clause-ok c =
     let taken : c.args.self.now.begun ≡ c.unwrap-order.result ∷ c.pop_front.new.self.items =
-      sym (ap (λ (w : Memory). w.begun) c.self.view_is) ∙ c.pop_front.ensures.items ∙ ap (λ (o : Option Order). option_to_list o ++ c.pop_front.new.self.items) c.unwrap-order.ensures in
+    sym (ap (λ (w : Memory). w.begun) c.self.view_is) ∙ c.pop_front.ensures.items ∙ ap (λ (o : Option Order). option_to_list o ++ c.pop_front.new.self.items) c.unwrap-order.ensures in
     ([], c.pop_front.new.self.items, taken, refl)
 
 pub returns-in-Ok-clause-keeps : goal.returns-in-Ok-clause-keeps
@@ -27,9 +27,9 @@ returns-in-Ok-clause-keeps c = went-keeps c.unwrap-order.result.outputs _ _
 pub returns-in-Ok-clause-same : goal.returns-in-Ok-clause-same
 returns-in-Ok-clause-same c t =
     let taken : c.args.self.now.begun ≡ c.unwrap-order.result ∷ c.pop_front.new.self.items =
-      sym (ap (λ (w : Memory). w.begun) c.self.view_is) ∙ c.pop_front.ensures.items ∙ ap (λ (o : Option Order). option_to_list o ++ c.pop_front.new.self.items) c.unwrap-order.ensures in
+    sym (ap (λ (w : Memory). w.begun) c.self.view_is) ∙ c.pop_front.ensures.items ∙ ap (λ (o : Option Order). option_to_list o ++ c.pop_front.new.self.items) c.unwrap-order.ensures in
     went-same c.unwrap-order.result c.args.self.now.begun c.args.self.now.writes c.perform.new.files (subst (In c.unwrap-order.result) (sym taken) (inl refl))
-      (subst (λ (ws : List Write). WentOn c.unwrap-order.result.outputs ws c.perform.new.files) (ap (λ (w : Memory). w.writes) c.self.view_is) c.perform.ensures.went)
+    (subst (λ (ws : List Write). WentOn c.unwrap-order.result.outputs ws c.perform.new.files) (ap (λ (w : Memory). w.writes) c.self.view_is) c.perform.ensures.went)
 
 pub returns-in-Ok-clause-directories : goal.returns-in-Ok-clause-directories
 returns-in-Ok-clause-directories c t = went-directories c.unwrap-order.result.outputs c.args.self.now.writes c.perform.new.files
@@ -46,9 +46,9 @@ returns-in-Err-perform-clause-keeps c = went-keeps c.unwrap-order.result.outputs
 pub returns-in-Err-perform-clause-same : goal.returns-in-Err-perform-clause-same
 returns-in-Err-perform-clause-same c t =
     let taken : c.args.self.now.begun ≡ c.unwrap-order.result ∷ c.pop_front.new.self.items =
-      sym (ap (λ (w : Memory). w.begun) c.self.view_is) ∙ c.pop_front.ensures.items ∙ ap (λ (o : Option Order). option_to_list o ++ c.pop_front.new.self.items) c.unwrap-order.ensures in
+    sym (ap (λ (w : Memory). w.begun) c.self.view_is) ∙ c.pop_front.ensures.items ∙ ap (λ (o : Option Order). option_to_list o ++ c.pop_front.new.self.items) c.unwrap-order.ensures in
     went-same c.unwrap-order.result c.args.self.now.begun c.args.self.now.writes c.perform.new.files (subst (In c.unwrap-order.result) (sym taken) (inl refl))
-      (subst (λ (ws : List Write). WentOn c.unwrap-order.result.outputs ws c.perform.new.files) (ap (λ (w : Memory). w.writes) c.self.view_is) c.perform.ensures.went)
+    (subst (λ (ws : List Write). WentOn c.unwrap-order.result.outputs ws c.perform.new.files) (ap (λ (w : Memory). w.writes) c.self.view_is) c.perform.ensures.went)
 
 pub returns-in-Err-perform-clause-directories : goal.returns-in-Err-perform-clause-directories
 returns-in-Err-perform-clause-directories c t = went-directories c.unwrap-order.result.outputs c.args.self.now.writes c.perform.new.files
