@@ -19,18 +19,9 @@ mod words;
 use crate::real_world::RealWorld;
 use crate::run::run_alone;
 use crate::std_sink::StdSink;
-use outside::law::Law;
+use outside::toy::ToyLaw;
 use std::process::ExitCode;
 use std::{env, io};
-
-// The law of which the real world says nothing.
-struct NoLaw;
-
-impl Law for NoLaw {
-    ghost does = { λ s d w o. ⊥ };
-
-    ghost function = { λ s d w v o q a b agree. absurd a };
-}
 
 fn main(rt: HostRuntime) -> io::Result<ExitCode> {
     let mut words = Vec::new(rt.alloc());
@@ -40,7 +31,7 @@ fn main(rt: HostRuntime) -> io::Result<ExitCode> {
     let mut world = RealWorld::new(rt);
     let mut out = StdSink::new(rt.stdout());
     let mut err = StdSink::new(rt.stderr());
-    let finish = run_alone::<NoLaw, _, _, _>(
+    let finish = run_alone::<ToyLaw, _, _, _>(
         rt.alloc(),
         words.as_slice(),
         &mut world,

@@ -85,6 +85,8 @@ impl<L: Law, R: Files + AllocGlobal + Drop> Disk<L> for RealDisk<R> {
 
     ghost begins = { λ d. 0 };
 
+    ghost leads_to_no_link = { λ d p text t e. t };
+
     ghost tells_infos = { λ d m t. t };
 
     fn stat(&mut self, _alloc: Global, path: &PathName, form: Form) -> Result<Info, DiskError> {
@@ -112,6 +114,8 @@ impl<L: Law, R: Files + AllocGlobal + Processes + Drop> Disk<L> for RealWorld<R>
     ghost orders = { λ w. w.waiting.items };
 
     ghost begins = { λ w. w.begins };
+
+    ghost leads_to_no_link = { λ w p text t e. t };
 
     ghost tells_infos = { λ w m t. t };
 

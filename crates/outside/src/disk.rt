@@ -2,6 +2,7 @@
 ghost use Rattle.std.specs.Prelude.{◌≡◌, ℕ, ◌<◌, ◌≤◌, ◌+◌, List as Items, IfOk, IsErrOf};
 ghost use Rattle.file_info.specs.Content.{Known, content};
 ghost use Rattle.file_info.specs.declared.info.Info.{Info};
+ghost use Rattle.file_info.specs.declared.info.Info.TheVariants as infos;
 ghost use Rattle.file_info.specs.declared.info.Form.{Form};
 ghost use Rattle.file_info.specs.declared.info.Form.TheVariants.{Follow};
 ghost use Rattle.outside.specs.declared.order.Order.{Order};
@@ -96,6 +97,9 @@ pub trait Disk<L: Law> {
         ensures begins { begins self.new ≡ begins self.old }
         ensures here { IsErrOf result NotDirectory → ⊥ }
         ensures cause { HasCause (faults self.old) (faults self.new) result };
+
+    /// A link that is followed leads to something that is no link.
+    ghost leads_to_no_link: { (d : Self) (p : Items ℕ) (text : Items ℕ) → told d → at d p Follow ≡ infos.Link text → ⊥ };
 
     /// A disk that tells contents tells what stands.
     ghost tells_infos: { (d : Self) (m : Items Known) → tells d m → told d };

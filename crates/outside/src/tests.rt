@@ -1,0 +1,349 @@
+use crate::disk::{Disk, DiskError, FileBytes};
+use crate::memory::MemoryWorld;
+use crate::order::{Act, EnvText, Exit, Order};
+use crate::sink::{Sink, SinkFault};
+use crate::sinks::{DropSink, VecSink};
+use crate::world::World;
+use file_info::copied::Copied;
+use file_info::info::{Form, Info, Kind};
+use file_info::list::{Bytes, List};
+use file_info::name::Name;
+use file_info::node::{NodeName, Read, Reading, ShapeEntry, TreeEntry};
+use file_info::path::PathName;
+use file_info::same::Same;
+use std::alloc::Global;
+use std::test::Fail;
+
+fn bytes(alloc: Global, text: &str) -> Result<Bytes, Fail> {
+    Ok(List::from_vec(Vec::from_slice(alloc, text.as_bytes())?))
+}
+
+fn path(alloc: Global, text: &str) -> Result<PathName, Fail> {
+    Ok(PathName::read(alloc, text)?)
+}
+
+fn read(alloc: Global, text: &str, reading: Reading) -> Result<Read, Fail> {
+    Ok(Read {
+        node: NodeName::Path(path(alloc, text)?),
+        reading,
+    })
+}
+
+// An order for a program that reads this and writes these.
+fn order(
+    alloc: Global,
+    signature: &str,
+    reads: List<Read>,
+    outputs: &[&str],
+) -> Result<Order, Fail> {
+    let mut paths = List::new(alloc);
+    for output in outputs {
+        paths.push(path(alloc, *output)?)?;
+    }
+    Ok(Order {
+        ticket: 0,
+        command: Name::read(alloc, "command")?,
+        signature: bytes(alloc, signature)?,
+        act: Act::Spawn {
+            words: List::new(alloc),
+            env: List::new(alloc),
+            inherit_env: false,
+            clear: false,
+        },
+        reads,
+        outputs: paths,
+        deps: List::new(alloc),
+        links: List::new(alloc),
+    })
+}
+
+// An order that reads one file, which stood as this.
+fn order_of_file(alloc: Global, input: &str, info: Info, outputs: &[&str]) -> Result<Order, Fail> {
+    let mut reads = List::new(alloc);
+    reads.push(read(alloc, input, Reading::File(info))?)?;
+    order(alloc, "sig", reads, outputs)
+}
+
+fn world(alloc: Global, failing: &[u64]) -> Result<MemoryWorld, Fail> {
+    let failing = List::from_vec(Vec::from_slice(alloc, failing)?);
+    Ok(MemoryWorld::new(alloc, failing))
+}
+
+fn set(alloc: Global, world: &mut MemoryWorld, at: &str, text: &str) -> Result<(), Fail> {
+    world.set(alloc, &path(alloc, at)?, bytes(alloc, text)?)?;
+    Ok(())
+}
+
+// What a path holds: `-` for nothing, `/` for a directory, or the file's text.
+fn held(alloc: Global, world: &mut MemoryWorld, at: &str) -> Result<String, Fail> {
+    let path = path(alloc, at)?;
+    match world.read(alloc, &path, 100)? {
+        FileBytes::Missing => Ok(String::from_str(alloc, "-")?),
+        FileBytes::NotFile => Ok(String::from_str(alloc, "/")?),
+        FileBytes::TooLong => Ok(String::from_str(alloc, "..")?),
+        FileBytes::Bytes(text) => Ok(String::from_utf8_lossy(alloc, text.as_slice())?),
+    }
+}
+
+// Performs an order.
+fn perform(alloc: Global, world: &mut MemoryWorld, order: Order) -> Result<Exit, Fail> {
+    world.begin(alloc, order)?;
+    let ended = world.end(alloc)?;
+    Ok(ended.exit)
+}
+
+#[test]
+fn numbers_no_write_twice(rt: HostRuntime) -> Result<(), Fail> {
+    let alloc = rt.alloc();
+    let mut world = world(alloc, &[])?;
+    set(alloc, &mut world, "a/b", "one")?;
+    set(alloc, &mut world, "a/b", "two")?;
+    world.dir(alloc, &path(alloc, "a/c")?)?;
+    world.drop_path(alloc, &path(alloc, "a/b")?)?;
+    let order = order_of_file(alloc, "a/b", Info::Missing, &["out", "other"])?;
+    assert_eq!(rt; perform(alloc, &mut world, order)?, Exit::Code(0));
+    assert_eq!(rt; world.writes().len(), 8);
+    for (place, write) in world.writes().iter().enumerate() {
+        assert_eq!(rt; write.number, place as u64 + 1);
+    }
+    assert_eq!(rt; world.faults(), 0);
+    assert!(rt; !world.may_fail());
+    Ok(())
+}
+
+#[test]
+fn fails_at_the_listed_calls(rt: HostRuntime) -> Result<(), Fail> {
+    let alloc = rt.alloc();
+    let mut world = world(alloc, &[2, 4, 6])?;
+    assert!(rt; world.may_fail());
+    let here = path(alloc, "here")?;
+    assert!(rt; world.stat(alloc, &here, Form::Follow).is_ok());
+    assert!(rt;
+        matches!(
+            world.stat(alloc, &here, Form::Follow),
+            Err(DiskError::Fault)
+        )
+    );
+    assert_eq!(rt; world.faults(), 1);
+    assert!(rt; world.read(alloc, &here, 1).is_ok());
+    assert!(rt; matches!(world.read(alloc, &here, 1), Err(DiskError::Fault)));
+    assert_eq!(rt; world.faults(), 2);
+    let first = order_of_file(alloc, "in", Info::Missing, &["out"])?;
+    assert!(rt; world.begin(alloc, first).is_ok());
+    let second = order_of_file(alloc, "in", Info::Missing, &["out"])?;
+    assert!(rt; matches!(world.begin(alloc, second), Err(DiskError::Fault)));
+    assert_eq!(rt; world.begun(), 1);
+    assert_eq!(rt; world.faults(), 3);
+    Ok(())
+}
+
+#[test]
+fn fails_at_an_end(rt: HostRuntime) -> Result<(), Fail> {
+    let alloc = rt.alloc();
+    let mut world = world(alloc, &[2])?;
+    let order = order_of_file(alloc, "in", Info::Missing, &["out"])?;
+    world.begin(alloc, order)?;
+    assert!(rt; matches!(world.end(alloc), Err(DiskError::Fault)));
+    assert_eq!(rt; world.begun(), 0);
+    assert_eq!(rt; world.faults(), 1);
+    assert_eq!(rt; held(alloc, &mut world, "out")?.as_str(), "-");
+    Ok(())
+}
+
+#[test]
+fn commands_fail_and_write_nothing(rt: HostRuntime) -> Result<(), Fail> {
+    let alloc = rt.alloc();
+    let texts = ["fail", "a\nfail", "fail\nb", "a\nfail\nb"];
+    for text in texts {
+        let mut world = world(alloc, &[])?;
+        set(alloc, &mut world, "in", text)?;
+        let order = order_of_file(alloc, "in", Info::Missing, &["out"])?;
+        assert_eq!(rt;
+            perform(alloc, &mut world, order)?,
+            Exit::Code(1),
+            "at {text}"
+        );
+        assert_eq!(rt; held(alloc, &mut world, "out")?.as_str(), "-");
+    }
+    let texts = ["", "fail\r\n", "failed", " fail", "FAIL"];
+    for text in texts {
+        let mut world = world(alloc, &[])?;
+        set(alloc, &mut world, "in", text)?;
+        let order = order_of_file(alloc, "in", Info::Missing, &["out"])?;
+        assert_eq!(rt;
+            perform(alloc, &mut world, order)?,
+            Exit::Code(0),
+            "at {text}"
+        );
+    }
+    let mut world = world(alloc, &[])?;
+    world.dir(alloc, &path(alloc, "dir")?)?;
+    let order = order_of_file(alloc, "in", Info::Missing, &["out", "dir"])?;
+    assert_eq!(rt;
+        perform(alloc, &mut world, order)?,
+        Exit::Code(1),
+        "onto a directory"
+    );
+    let order = order_of_file(alloc, "in", Info::Missing, &["in"])?;
+    assert_eq!(rt;
+        perform(alloc, &mut world, order)?,
+        Exit::Code(1),
+        "onto its input"
+    );
+    assert_eq!(rt; held(alloc, &mut world, "out")?.as_str(), "-");
+    Ok(())
+}
+
+// The digests are those that another program gave for these bytes.
+#[test]
+fn outputs_are_digests(rt: HostRuntime) -> Result<(), Fail> {
+    let alloc = rt.alloc();
+    let mut world = world(alloc, &[])?;
+    set(alloc, &mut world, "in", "v0")?;
+    let order = order_of_file(alloc, "in", Info::Missing, &["one", "two"])?;
+    assert_eq!(rt; perform(alloc, &mut world, order)?, Exit::Code(0));
+    let digests = [
+        [
+            0x07, 0x43, 0xe8, 0xa2, 0x72, 0x0b, 0x0b, 0x51, 0xcb, 0xdf, 0xd2, 0x8b, 0x0a, 0xcd,
+            0xbc, 0x15, 0xa6, 0x6a, 0xcb, 0xe8, 0x2b, 0xe2, 0x04, 0x86, 0x0b, 0x66, 0xc4, 0x6b,
+            0x8a, 0x24, 0x27, 0xa3,
+        ],
+        [
+            0xb5, 0xdf, 0x57, 0xef, 0xbe, 0x83, 0x60, 0x84, 0x0e, 0x25, 0x8d, 0xdd, 0x81, 0x48,
+            0x22, 0x0c, 0x4d, 0xb0, 0x1d, 0xc9, 0xc7, 0x8d, 0x05, 0x15, 0x44, 0xc7, 0x9e, 0x16,
+            0x8c, 0x76, 0x4c, 0x23,
+        ],
+    ];
+    for (at, digest) in ["one", "two"].iter().zip(digests.iter()) {
+        match world.read(alloc, &path(alloc, *at)?, 32)? {
+            FileBytes::Bytes(text) => assert_eq!(rt; text.as_slice(), digest.as_slice()),
+            _ => assert!(rt; false, "no file at {at}"),
+        }
+    }
+    Ok(())
+}
+
+// Reads of each kind. The digest is the one that another program gave for these bytes.
+#[test]
+fn digests_cover_all_reads(rt: HostRuntime) -> Result<(), Fail> {
+    let alloc = rt.alloc();
+    let mut world = world(alloc, &[])?;
+    world.dir(alloc, &path(alloc, "d")?)?;
+    world.dir(alloc, &path(alloc, "d2")?)?;
+    set(alloc, &mut world, "t/a", "x")?;
+    let mut tree = List::new(alloc);
+    tree.push(TreeEntry {
+        path: path(alloc, "t/a")?,
+        info: Info::Missing,
+    })?;
+    let mut shape = List::new(alloc);
+    shape.push(ShapeEntry {
+        path: path(alloc, "s/d")?,
+        kind: Kind::Directory,
+    })?;
+    shape.push(ShapeEntry {
+        path: path(alloc, "s/f")?,
+        kind: Kind::Other,
+    })?;
+    let mut reads = List::new(alloc);
+    reads.push(read(alloc, "m", Reading::File(Info::Missing))?)?;
+    reads.push(Read {
+        node: NodeName::Virtual(Name::read(alloc, "v")?),
+        reading: Reading::Nothing,
+    })?;
+    reads.push(read(alloc, "d", Reading::File(Info::Directory))?)?;
+    reads.push(read(alloc, "t", Reading::Tree(tree))?)?;
+    reads.push(read(alloc, "s", Reading::Structure(shape))?)?;
+    reads.push(read(alloc, "d2", Reading::File(Info::Directory))?)?;
+    let order = order(alloc, "two", reads, &["out"])?;
+    assert_eq!(rt; perform(alloc, &mut world, order)?, Exit::Code(0));
+    let digest = [
+        0xe3, 0xf1, 0x56, 0x3c, 0xe6, 0x99, 0x2e, 0xfc, 0xe0, 0x7a, 0x6c, 0x83, 0xf8, 0x90, 0x3e,
+        0x73, 0x24, 0x3c, 0xbb, 0x5b, 0x30, 0x30, 0x72, 0xa4, 0x73, 0x61, 0x83, 0x68, 0x70, 0xc2,
+        0xcc, 0xbc,
+    ];
+    match world.read(alloc, &path(alloc, "out")?, 32)? {
+        FileBytes::Bytes(text) => assert_eq!(rt; text.as_slice(), digest.as_slice()),
+        _ => assert!(rt; false, "no file"),
+    }
+    Ok(())
+}
+
+#[test]
+fn steps_of_scripts(rt: HostRuntime) -> Result<(), Fail> {
+    let alloc = rt.alloc();
+    let mut world = world(alloc, &[])?;
+    set(alloc, &mut world, "a/b/c", "text")?;
+    set(alloc, &mut world, "/r/s", "root")?;
+    set(alloc, &mut world, "../up", "up")?;
+    // Nothing happens through a file, and neither does a directory become a file or a file a directory.
+    set(alloc, &mut world, "a/b/c/d", "through")?;
+    set(alloc, &mut world, "a/b", "over")?;
+    world.dir(alloc, &path(alloc, "a/b/c")?)?;
+    world.dir(alloc, &path(alloc, "a/b/c/e/f")?)?;
+    world.dir(alloc, &path(alloc, "e/f")?)?;
+    let stands = [
+        (".", "/"),
+        ("a", "/"),
+        ("a/b", "/"),
+        ("a/b/c", "text"),
+        ("a/b/c/d", "-"),
+        ("a/b/c/e", "-"),
+        ("/", "/"),
+        ("/r", "/"),
+        ("/r/s", "root"),
+        ("..", "/"),
+        ("../up", "up"),
+        ("e", "/"),
+        ("e/f", "/"),
+        ("r", "-"),
+    ];
+    for (at, text) in stands {
+        assert_eq!(rt; held(alloc, &mut world, at)?.as_str(), text, "at {at}");
+    }
+    // A directory that is not empty stays.
+    for at in ["a/b", "a", ".", "/", ".."] {
+        world.drop_path(alloc, &path(alloc, at)?)?;
+        assert_eq!(rt; held(alloc, &mut world, at)?.as_str(), "/", "at {at}");
+    }
+    for at in [
+        "a/b/c", "a/b", "a", "e/f", "e", ".", "/r/s", "/r", "/", "../up", "..",
+    ] {
+        world.drop_path(alloc, &path(alloc, at)?)?;
+        assert_eq!(rt; held(alloc, &mut world, at)?.as_str(), "-", "at {at}");
+    }
+    Ok(())
+}
+
+#[test]
+fn sinks_have_room(rt: HostRuntime) -> Result<(), Fail> {
+    let alloc = rt.alloc();
+    let failing = List::from_vec(Vec::from_slice(alloc, &[2])?);
+    let mut sink = VecSink::new(alloc, 5, failing)?;
+    assert_eq!(rt; sink.put(b"abc"), Ok(3));
+    assert_eq!(rt; sink.put(b"d"), Err(SinkFault));
+    assert_eq!(rt; sink.faults(), 1);
+    assert_eq!(rt; sink.put(b"def"), Ok(2));
+    assert_eq!(rt; sink.put(b"f"), Err(SinkFault));
+    assert_eq!(rt; sink.put(b""), Ok(0));
+    assert_eq!(rt; sink.faults(), 2);
+    assert_eq!(rt; sink.bytes(), b"abcde".as_slice());
+    let mut dropped = DropSink::new();
+    assert_eq!(rt; dropped.put(b"abc"), Ok(3));
+    Ok(())
+}
+
+#[test]
+fn orders_can_be_copied(rt: HostRuntime) -> Result<(), Fail> {
+    let alloc = rt.alloc();
+    let order = order_of_file(alloc, "in", Info::Missing, &["out"])?;
+    let copy = order.copy(alloc)?;
+    assert!(rt; copy.signature.same(&order.signature));
+    assert!(rt; copy.outputs.same(&order.outputs));
+    let variable = EnvText {
+        name: bytes(alloc, "NAME")?,
+        text: bytes(alloc, "text")?,
+    };
+    assert!(rt; variable.copy(alloc)?.text.same(&variable.text));
+    Ok(())
+}
