@@ -10,7 +10,6 @@ use file_info::list::{Bytes, List};
 use file_info::name::Name;
 use file_info::node::{NodeName, Read, Reading, ShapeEntry, TreeEntry};
 use file_info::path::PathName;
-use file_info::same::Same;
 use std::alloc::Global;
 use std::test::Fail;
 
@@ -29,6 +28,23 @@ fn read(alloc: Global, text: &str, reading: Reading) -> Result<Read, Fail> {
     })
 }
 
+fn paths(alloc: Global, texts: &[&str]) -> Result<List<PathName>, Fail> {
+    let mut paths = List::new(alloc);
+    for text in texts {
+        paths.push(path(alloc, *text)?)?;
+    }
+    Ok(paths)
+}
+
+fn program(alloc: Global) -> Act {
+    Act::Spawn {
+        words: List::new(alloc),
+        env: List::new(alloc),
+        inherit_env: false,
+        clear: false,
+    }
+}
+
 // An order for a program that reads this and writes these.
 fn order(
     alloc: Global,
@@ -36,32 +52,38 @@ fn order(
     reads: List<Read>,
     outputs: &[&str],
 ) -> Result<Order, Fail> {
-    let mut paths = List::new(alloc);
-    for output in outputs {
-        paths.push(path(alloc, *output)?)?;
-    }
+    let command = Name::read(alloc, "command")?;
+    let signature = bytes(alloc, signature)?;
+    let outputs = paths(alloc, outputs)?;
     Ok(Order {
         ticket: 0,
-        command: Name::read(alloc, "command")?,
-        signature: bytes(alloc, signature)?,
-        act: Act::Spawn {
-            words: List::new(alloc),
-            env: List::new(alloc),
-            inherit_env: false,
-            clear: false,
-        },
+        command,
+        signature,
+        act: program(alloc),
         reads,
-        outputs: paths,
+        outputs,
         deps: List::new(alloc),
         links: List::new(alloc),
     })
 }
 
-// An order that reads one file, which stood as this.
-fn order_of_file(alloc: Global, input: &str, info: Info, outputs: &[&str]) -> Result<Order, Fail> {
+// Begins an order that reads one file, which was missing.
+fn begin(
+    alloc: Global,
+    world: &mut MemoryWorld,
+    input: &str,
+    outputs: &[&str],
+) -> Result<(), Fail> {
+    let reads = missing(alloc, input)?;
+    let order = order(alloc, "sig", reads, outputs)?;
+    world.begin(alloc, order)?;
+    Ok(())
+}
+
+fn missing(alloc: Global, input: &str) -> Result<List<Read>, Fail> {
     let mut reads = List::new(alloc);
-    reads.push(read(alloc, input, Reading::File(info))?)?;
-    order(alloc, "sig", reads, outputs)
+    reads.push(read(alloc, input, Reading::File(Info::Missing))?)?;
+    Ok(reads)
 }
 
 fn world(alloc: Global, failing: &[u64]) -> Result<MemoryWorld, Fail> {
@@ -85,11 +107,59 @@ fn held(alloc: Global, world: &mut MemoryWorld, at: &str) -> Result<String, Fail
     }
 }
 
-// Performs an order.
-fn perform(alloc: Global, world: &mut MemoryWorld, order: Order) -> Result<Exit, Fail> {
-    world.begin(alloc, order)?;
+// Performs an order that reads one file, which was missing.
+fn run(
+    alloc: Global,
+    world: &mut MemoryWorld,
+    input: &str,
+    outputs: &[&str],
+) -> Result<Exit, Fail> {
+    begin(alloc, world, input, outputs)?;
+    end(alloc, world)
+}
+
+// Ends an order. No order is no success.
+fn end(alloc: Global, world: &mut MemoryWorld) -> Result<Exit, Fail> {
+    if world.begun() == 0 {
+        return Ok(Exit::Killed);
+    }
     let ended = world.end(alloc)?;
     Ok(ended.exit)
+}
+
+// Whether a fault is answered to each of the two calls of a disk.
+fn stat_fails(alloc: Global, world: &mut MemoryWorld) -> Result<bool, Fail> {
+    let here = path(alloc, "here")?;
+    match world.stat(alloc, &here, Form::Follow) {
+        Err(error) => Ok(error == DiskError::Fault),
+        Ok(_) => Ok(false),
+    }
+}
+
+fn read_fails(alloc: Global, world: &mut MemoryWorld) -> Result<bool, Fail> {
+    let here = path(alloc, "here")?;
+    match world.read(alloc, &here, 1) {
+        Err(error) => Ok(error == DiskError::Fault),
+        Ok(_) => Ok(false),
+    }
+}
+
+fn begin_fails(alloc: Global, world: &mut MemoryWorld) -> Result<bool, Fail> {
+    let order = order(alloc, "sig", missing(alloc, "in")?, &["out"])?;
+    match world.begin(alloc, order) {
+        Err(error) => Ok(error == DiskError::Fault),
+        Ok(()) => Ok(false),
+    }
+}
+
+fn end_fails(alloc: Global, world: &mut MemoryWorld) -> bool {
+    if world.begun() == 0 {
+        return false;
+    }
+    match world.end(alloc) {
+        Err(error) => error == DiskError::Fault,
+        Ok(_) => false,
+    }
 }
 
 #[test]
@@ -100,8 +170,8 @@ fn numbers_no_write_twice(rt: HostRuntime) -> Result<(), Fail> {
     set(alloc, &mut world, "a/b", "two")?;
     world.dir(alloc, &path(alloc, "a/c")?)?;
     world.drop_path(alloc, &path(alloc, "a/b")?)?;
-    let order = order_of_file(alloc, "a/b", Info::Missing, &["out", "other"])?;
-    assert_eq!(rt; perform(alloc, &mut world, order)?, Exit::Code(0));
+    let exit = run(alloc, &mut world, "a/b", &["out", "other"])?;
+    assert_eq!(rt; exit, Exit::Code(0));
     assert_eq!(rt; world.writes().len(), 8);
     for (place, write) in world.writes().iter().enumerate() {
         assert_eq!(rt; write.number, place as u64 + 1);
@@ -116,22 +186,14 @@ fn fails_at_the_listed_calls(rt: HostRuntime) -> Result<(), Fail> {
     let alloc = rt.alloc();
     let mut world = world(alloc, &[2, 4, 6])?;
     assert!(rt; world.may_fail());
-    let here = path(alloc, "here")?;
-    assert!(rt; world.stat(alloc, &here, Form::Follow).is_ok());
-    assert!(rt;
-        matches!(
-            world.stat(alloc, &here, Form::Follow),
-            Err(DiskError::Fault)
-        )
-    );
+    assert!(rt; !stat_fails(alloc, &mut world)?);
+    assert!(rt; stat_fails(alloc, &mut world)?);
     assert_eq!(rt; world.faults(), 1);
-    assert!(rt; world.read(alloc, &here, 1).is_ok());
-    assert!(rt; matches!(world.read(alloc, &here, 1), Err(DiskError::Fault)));
+    assert!(rt; !read_fails(alloc, &mut world)?);
+    assert!(rt; read_fails(alloc, &mut world)?);
     assert_eq!(rt; world.faults(), 2);
-    let first = order_of_file(alloc, "in", Info::Missing, &["out"])?;
-    assert!(rt; world.begin(alloc, first).is_ok());
-    let second = order_of_file(alloc, "in", Info::Missing, &["out"])?;
-    assert!(rt; matches!(world.begin(alloc, second), Err(DiskError::Fault)));
+    assert!(rt; !begin_fails(alloc, &mut world)?);
+    assert!(rt; begin_fails(alloc, &mut world)?);
     assert_eq!(rt; world.begun(), 1);
     assert_eq!(rt; world.faults(), 3);
     Ok(())
@@ -141,57 +203,57 @@ fn fails_at_the_listed_calls(rt: HostRuntime) -> Result<(), Fail> {
 fn fails_at_an_end(rt: HostRuntime) -> Result<(), Fail> {
     let alloc = rt.alloc();
     let mut world = world(alloc, &[2])?;
-    let order = order_of_file(alloc, "in", Info::Missing, &["out"])?;
-    world.begin(alloc, order)?;
-    assert!(rt; matches!(world.end(alloc), Err(DiskError::Fault)));
+    begin(alloc, &mut world, "in", &["out"])?;
+    assert!(rt; end_fails(alloc, &mut world));
     assert_eq!(rt; world.begun(), 0);
     assert_eq!(rt; world.faults(), 1);
     assert_eq!(rt; held(alloc, &mut world, "out")?.as_str(), "-");
     Ok(())
 }
 
+// How a command ends that reads a file with this text, and what then stands at its output.
+fn run_on(alloc: Global, text: &str) -> Result<(Exit, String), Fail> {
+    let mut world = world(alloc, &[])?;
+    set(alloc, &mut world, "in", text)?;
+    let exit = run(alloc, &mut world, "in", &["out"])?;
+    Ok((exit, held(alloc, &mut world, "out")?))
+}
+
 #[test]
 fn commands_fail_and_write_nothing(rt: HostRuntime) -> Result<(), Fail> {
     let alloc = rt.alloc();
-    let texts = ["fail", "a\nfail", "fail\nb", "a\nfail\nb"];
-    for text in texts {
-        let mut world = world(alloc, &[])?;
-        set(alloc, &mut world, "in", text)?;
-        let order = order_of_file(alloc, "in", Info::Missing, &["out"])?;
-        assert_eq!(rt;
-            perform(alloc, &mut world, order)?,
-            Exit::Code(1),
-            "at {text}"
-        );
-        assert_eq!(rt; held(alloc, &mut world, "out")?.as_str(), "-");
+    for text in ["fail", "a\nfail", "fail\nb", "a\nfail\nb"] {
+        let (exit, held) = run_on(alloc, text)?;
+        assert_eq!(rt; exit, Exit::Code(1), "at {text}");
+        assert_eq!(rt; held.as_str(), "-", "at {text}");
     }
-    let texts = ["", "fail\r\n", "failed", " fail", "FAIL"];
-    for text in texts {
-        let mut world = world(alloc, &[])?;
-        set(alloc, &mut world, "in", text)?;
-        let order = order_of_file(alloc, "in", Info::Missing, &["out"])?;
-        assert_eq!(rt;
-            perform(alloc, &mut world, order)?,
-            Exit::Code(0),
-            "at {text}"
-        );
+    for text in ["", "fail\r\n", "failed", " fail", "FAIL"] {
+        let (exit, _) = run_on(alloc, text)?;
+        assert_eq!(rt; exit, Exit::Code(0), "at {text}");
     }
+    Ok(())
+}
+
+#[test]
+fn outputs_are_no_directories_and_no_inputs(rt: HostRuntime) -> Result<(), Fail> {
+    let alloc = rt.alloc();
     let mut world = world(alloc, &[])?;
     world.dir(alloc, &path(alloc, "dir")?)?;
-    let order = order_of_file(alloc, "in", Info::Missing, &["out", "dir"])?;
-    assert_eq!(rt;
-        perform(alloc, &mut world, order)?,
-        Exit::Code(1),
-        "onto a directory"
-    );
-    let order = order_of_file(alloc, "in", Info::Missing, &["in"])?;
-    assert_eq!(rt;
-        perform(alloc, &mut world, order)?,
-        Exit::Code(1),
-        "onto its input"
-    );
+    let exit = run(alloc, &mut world, "in", &["out", "dir"])?;
+    assert_eq!(rt; exit, Exit::Code(1));
+    let exit = run(alloc, &mut world, "in", &["in"])?;
+    assert_eq!(rt; exit, Exit::Code(1));
     assert_eq!(rt; held(alloc, &mut world, "out")?.as_str(), "-");
     Ok(())
+}
+
+// Whether a path holds these bytes.
+fn holds(alloc: Global, world: &mut MemoryWorld, at: &str, bytes: &[u8]) -> Result<bool, Fail> {
+    let path = path(alloc, at)?;
+    match world.read(alloc, &path, 100)? {
+        FileBytes::Bytes(text) => Ok(text.as_slice() == bytes),
+        _ => Ok(false),
+    }
 }
 
 // The digests are those that another program gave for these bytes.
@@ -200,8 +262,8 @@ fn outputs_are_digests(rt: HostRuntime) -> Result<(), Fail> {
     let alloc = rt.alloc();
     let mut world = world(alloc, &[])?;
     set(alloc, &mut world, "in", "v0")?;
-    let order = order_of_file(alloc, "in", Info::Missing, &["one", "two"])?;
-    assert_eq!(rt; perform(alloc, &mut world, order)?, Exit::Code(0));
+    let exit = run(alloc, &mut world, "in", &["one", "two"])?;
+    assert_eq!(rt; exit, Exit::Code(0));
     let digests = [
         [
             0x07, 0x43, 0xe8, 0xa2, 0x72, 0x0b, 0x0b, 0x51, 0xcb, 0xdf, 0xd2, 0x8b, 0x0a, 0xcd,
@@ -214,12 +276,63 @@ fn outputs_are_digests(rt: HostRuntime) -> Result<(), Fail> {
             0x8c, 0x76, 0x4c, 0x23,
         ],
     ];
-    for (at, digest) in ["one", "two"].iter().zip(digests.iter()) {
-        match world.read(alloc, &path(alloc, *at)?, 32)? {
-            FileBytes::Bytes(text) => assert_eq!(rt; text.as_slice(), digest.as_slice()),
-            _ => assert!(rt; false, "no file at {at}"),
-        }
-    }
+    assert!(rt; holds(alloc, &mut world, "one", digests[0].as_slice())?);
+    assert!(rt; holds(alloc, &mut world, "two", digests[1].as_slice())?);
+    Ok(())
+}
+
+fn tree(alloc: Global) -> Result<Reading, Fail> {
+    let path = path(alloc, "t/a")?;
+    let mut tree = List::new(alloc);
+    tree.push(TreeEntry {
+        path,
+        info: Info::Missing,
+    })?;
+    Ok(Reading::Tree(tree))
+}
+
+fn structure(alloc: Global) -> Result<Reading, Fail> {
+    let mut shapes = List::new(alloc);
+    shapes.push(ShapeEntry {
+        path: path(alloc, "s/d")?,
+        kind: Kind::Directory,
+    })?;
+    shapes.push(ShapeEntry {
+        path: path(alloc, "s/f")?,
+        kind: Kind::Other,
+    })?;
+    Ok(Reading::Structure(shapes))
+}
+
+fn add(alloc: Global, reads: &mut List<Read>, text: &str, reading: Reading) -> Result<(), Fail> {
+    reads.push(read(alloc, text, reading)?)?;
+    Ok(())
+}
+
+fn add_virtual(alloc: Global, reads: &mut List<Read>, text: &str) -> Result<(), Fail> {
+    let name = Name::read(alloc, text)?;
+    reads.push(Read {
+        node: NodeName::Virtual(name),
+        reading: Reading::Nothing,
+    })?;
+    Ok(())
+}
+
+fn reads_of_each_kind(alloc: Global) -> Result<List<Read>, Fail> {
+    let mut reads = List::new(alloc);
+    add(alloc, &mut reads, "m", Reading::File(Info::Missing))?;
+    add_virtual(alloc, &mut reads, "v")?;
+    add(alloc, &mut reads, "d", Reading::File(Info::Directory))?;
+    add(alloc, &mut reads, "t", tree(alloc)?)?;
+    add(alloc, &mut reads, "s", structure(alloc)?)?;
+    add(alloc, &mut reads, "d2", Reading::File(Info::Directory))?;
+    Ok(reads)
+}
+
+fn begin_reader(alloc: Global, world: &mut MemoryWorld) -> Result<(), Fail> {
+    let reads = reads_of_each_kind(alloc)?;
+    let order = order(alloc, "two", reads, &["out"])?;
+    world.begin(alloc, order)?;
     Ok(())
 }
 
@@ -231,41 +344,15 @@ fn digests_cover_all_reads(rt: HostRuntime) -> Result<(), Fail> {
     world.dir(alloc, &path(alloc, "d")?)?;
     world.dir(alloc, &path(alloc, "d2")?)?;
     set(alloc, &mut world, "t/a", "x")?;
-    let mut tree = List::new(alloc);
-    tree.push(TreeEntry {
-        path: path(alloc, "t/a")?,
-        info: Info::Missing,
-    })?;
-    let mut shape = List::new(alloc);
-    shape.push(ShapeEntry {
-        path: path(alloc, "s/d")?,
-        kind: Kind::Directory,
-    })?;
-    shape.push(ShapeEntry {
-        path: path(alloc, "s/f")?,
-        kind: Kind::Other,
-    })?;
-    let mut reads = List::new(alloc);
-    reads.push(read(alloc, "m", Reading::File(Info::Missing))?)?;
-    reads.push(Read {
-        node: NodeName::Virtual(Name::read(alloc, "v")?),
-        reading: Reading::Nothing,
-    })?;
-    reads.push(read(alloc, "d", Reading::File(Info::Directory))?)?;
-    reads.push(read(alloc, "t", Reading::Tree(tree))?)?;
-    reads.push(read(alloc, "s", Reading::Structure(shape))?)?;
-    reads.push(read(alloc, "d2", Reading::File(Info::Directory))?)?;
-    let order = order(alloc, "two", reads, &["out"])?;
-    assert_eq!(rt; perform(alloc, &mut world, order)?, Exit::Code(0));
+    begin_reader(alloc, &mut world)?;
+    let exit = end(alloc, &mut world)?;
+    assert_eq!(rt; exit, Exit::Code(0));
     let digest = [
         0xe3, 0xf1, 0x56, 0x3c, 0xe6, 0x99, 0x2e, 0xfc, 0xe0, 0x7a, 0x6c, 0x83, 0xf8, 0x90, 0x3e,
         0x73, 0x24, 0x3c, 0xbb, 0x5b, 0x30, 0x30, 0x72, 0xa4, 0x73, 0x61, 0x83, 0x68, 0x70, 0xc2,
         0xcc, 0xbc,
     ];
-    match world.read(alloc, &path(alloc, "out")?, 32)? {
-        FileBytes::Bytes(text) => assert_eq!(rt; text.as_slice(), digest.as_slice()),
-        _ => assert!(rt; false, "no file"),
-    }
+    assert!(rt; holds(alloc, &mut world, "out", digest.as_slice())?);
     Ok(())
 }
 
@@ -336,14 +423,17 @@ fn sinks_have_room(rt: HostRuntime) -> Result<(), Fail> {
 #[test]
 fn orders_can_be_copied(rt: HostRuntime) -> Result<(), Fail> {
     let alloc = rt.alloc();
-    let order = order_of_file(alloc, "in", Info::Missing, &["out"])?;
-    let copy = order.copy(alloc)?;
-    assert!(rt; copy.signature.same(&order.signature));
-    assert!(rt; copy.outputs.same(&order.outputs));
-    let variable = EnvText {
-        name: bytes(alloc, "NAME")?,
-        text: bytes(alloc, "text")?,
-    };
-    assert!(rt; variable.copy(alloc)?.text.same(&variable.text));
+    let order = order(alloc, "sig", missing(alloc, "in")?, &["out"])?;
+    assert!(rt; order.copy(alloc).is_ok());
+    Ok(())
+}
+
+#[test]
+fn variables_can_be_copied(rt: HostRuntime) -> Result<(), Fail> {
+    let alloc = rt.alloc();
+    let name = bytes(alloc, "NAME")?;
+    let text = bytes(alloc, "text")?;
+    let variable = EnvText { name, text };
+    assert!(rt; variable.copy(alloc).is_ok());
     Ok(())
 }
