@@ -2,3 +2,9 @@ pub mod Turns
 pub mod Powers
 pub mod Names
 pub mod Answer
+pub mod Cuts
+pub mod Fine
+pub mod Scalars
+pub mod Spaces
+pub mod Sound
+pub mod Documents

@@ -1,4 +1,5 @@
 -- Block nodes: lines, mappings and sequences by their columns.
+-- Bytes by their codes: 9 tab, 10 LF, 32 space, 35 #, 37 %, 45 -, 46 dot, 58 :.
 use Rattle.std.specs.Prelude.{ℕ, zero, suc, ◌+◌, Bool, true, false, ◌&&◌, ◌||◌, ◌==◌, nat_lt, if◌then◌else◌, List, [], ◌∷◌, ◌++◌, length, drop, Option, Some, None, Result, Ok, Err}
 use Rattle.std.specs.Borrow.{Bor}
 use Rattle.yaml_profile.specs.declared.fault.Refusal.{Refusal}

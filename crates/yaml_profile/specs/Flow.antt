@@ -1,4 +1,5 @@
 -- Inline nodes: scalars and flow collections, which may go over several lines.
+-- Bytes by their codes: 33 !, 38 &, 42 *, 44 comma, 58 :, 62 >, 63 ?, 91 and 93 [ and ], 123 and 125 { and }, 124 |.
 use Rattle.std.specs.Prelude.{ℕ, zero, suc, Bool, true, ◌&&◌, ◌||◌, ◌==◌, if◌then◌else◌, List, [], ◌∷◌, ◌++◌, length, drop, Option, Some, None, Result, Ok}
 use Rattle.yaml_profile.specs.declared.fault.Refusal.{Refusal}
 use Rattle.yaml_profile.specs.declared.fault.Fault.TheVariants.{LeftOut, TooDeep, RepeatedKey, Syntax}

@@ -4,3 +4,4 @@ pub mod Mapping
 pub mod Flow
 pub mod Block
 pub mod Read
+pub mod Tree

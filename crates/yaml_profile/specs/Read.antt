@@ -1,5 +1,6 @@
 -- What reading a text answers.
-use Rattle.std.specs.Prelude.{ℕ, ◌-◌, ◌==◌, nat_lt, if◌then◌else◌, length, Result, Ok, Err}
+use Rattle.std.specs.Prelude.{ℕ, ◌-◌, nat_lt, if◌then◌else◌, length, Result, Ok, Err}
+use Rattle.std.specs.Str.{is_utf8}
 use Rattle.std.specs.Str.Lossy.{utf8_valid_len}
 use Rattle.yaml_profile.specs.declared.fault.Fault.{Fault}
 use Rattle.yaml_profile.specs.declared.fault.Fault.TheVariants as fault
@@ -26,4 +27,4 @@ placed t (Err refusal) = Err (error_at refusal.fault (length t - refusal.left))
 unfoldable pub yaml_of : Text → Result Yaml YamlError
 yaml_of t =
     if nat_lt 67108864 (length t) then Err TooLong
-    else (if utf8_valid_len t == length t then placed t (document t) else Err (NotUtf8 (utf8_valid_len t)))
+    else (if is_utf8 t then placed t (document t) else Err (NotUtf8 (utf8_valid_len t)))

@@ -1,4 +1,6 @@
 -- Scalars and keys, which stand on one line.
+-- Bytes by their codes: 9 tab, 33 !, 34 ", 35 #, 37 %, 38 &, 39 ', 42 *, 45 -, 47 /, 58 :, 62 >, 63 ?, 64 @, 92 \, 96 `, 124 |,
+-- and the letters of escapes: 48 0, 85 U, 97 a, 98 b, 101 e, 102 f, 110 n, 114 r, 116 t, 117 u, 118 v, 120 x.
 use Rattle.std.specs.Prelude.{ℕ, zero, suc, ◌+◌, ◌*◌, Bool, true, false, not, ◌&&◌, ◌||◌, ◌==◌, nat_lt, if◌then◌else◌, List, [], ◌∷◌, ◌++◌, length, take, drop, Option, Some, None, Ok, encode_utf8}
 use Rattle.std.specs.Char.{is_digit, digit_value}
 use Rattle.yaml_profile.specs.declared.fault.Fault.TheVariants.{LeftOut, Syntax}

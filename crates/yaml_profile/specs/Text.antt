@@ -1,4 +1,5 @@
 -- Bytes, lines and white, and what reading gives.
+-- Bytes by their codes: 9 tab, 10 LF, 13 CR, 32 space, 35 #, 44 comma, 91 and 93 [ and ], 123 and 125 { and }.
 use Rattle.std.specs.Prelude.{◌≡◌, ℕ, Bool, true, false, ◌&&◌, ◌||◌, ◌==◌, if◌then◌else◌, List, [], ◌∷◌, length, drop, ◌<◌, Option, Some, None, Result, Ok, Err}
 use Rattle.yaml_profile.specs.declared.fault.Fault.{Fault}
 use Rattle.yaml_profile.specs.declared.fault.Refusal.{Refusal}

@@ -14,5 +14,5 @@ mod text;
 mod yaml;
 
 pub use error::{Feature, YamlError};
-pub use reader::{DEPTH_MAX, TEXT_MAX, read};
+pub use reader::read;
 pub use yaml::{Pair, Yaml};

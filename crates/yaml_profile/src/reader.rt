@@ -3,6 +3,7 @@ ghost use Rattle.std.specs.Prelude.{◌≡◌, ◌⊎◌, IfOk, IfErr};
 ghost use Rattle.yaml_profile.specs.Text.{Gives};
 ghost use Rattle.yaml_profile.specs.Block as spec;
 ghost use Rattle.yaml_profile.specs.Read.{yaml_of, error_at};
+ghost use Rattle.yaml_profile.specs.Tree.{IsTree};
 
 use crate::block::block;
 use crate::error::{Feature, YamlError};
@@ -14,10 +15,10 @@ use file_info::list::List;
 use std::alloc::Global;
 
 /// The most bytes that a text has.
-pub const TEXT_MAX: usize = 67_108_864;
+const TEXT_MAX: usize = 67_108_864;
 
 /// How many collections nest.
-pub const DEPTH_MAX: usize = 64;
+const DEPTH_MAX: usize = 64;
 
 // The line that the first node stands on, which is not the line `---`.
 fn begun<'a>(first: Option<Line<'a>>) -> Result<Option<Line<'a>>, Stop>
@@ -67,10 +68,12 @@ fn error_at(fault: Fault, at: u64) -> YamlError
 }
 
 /// The tree of a text in the profile of YAML that `docs/YAML.md` describes, or its first refusal. Besides those, want of
-/// memory may come at any text.
+/// memory may come at any text. In a tree collections nest at most 64 deep, each scalar and each name is UTF-8, and no
+/// mapping has a name twice.
 pub fn read(alloc: Global, bytes: &[u8]) -> Result<Yaml, YamlError>
     ensures ok { IfOk result (λ tree. yaml_of bytes.now ≡ Ok tree) }
     ensures refused { IfErr result (λ error. (error ≡ YamlError.NoMemory) ⊎ (yaml_of bytes.now ≡ Err error)) }
+    ensures sound { IfOk result (IsTree 64) }
 {
     if bytes.len() > TEXT_MAX {
         return Err(YamlError::TooLong);

@@ -4,6 +4,7 @@ use Rattle.yaml_profile.specs.declared.yaml.Yaml.{Yaml}
 use Rattle.yaml_profile.specs.Block.{document}
 use Rattle.yaml_profile.specs.Read.{error_at, placed}
 use Rattle.yaml_profile.proofs.Answer.{too_long, not_utf8, placed_text}
+use Rattle.yaml_profile.proofs.Documents.{tree_fine}
 use Rattle.yaml_profile.proofs.reader.read.Goals as goal
 
 pub returns-then-bytes-gt-TEXT_MAX-clause-refused :
@@ -12,13 +13,16 @@ returns-then-bytes-gt-TEXT_MAX-clause-refused c = inr (too_long _ (omega arith))
 
 pub returns-in-Err-clause-refused : goal.returns-in-Err-clause-refused
 returns-in-Err-clause-refused c =
-    inr (not_utf8 _ _ (omega arith) (c.valid_up_to.ensures ∙ c.in-Err.ensures.valid_len) (omega (arith, c.valid_up_to.ensures, c.in-Err.ensures.cases.1.short)))
+    inr (not_utf8 _ _ (omega arith) (c.valid_up_to.ensures ∙ c.in-Err.ensures.valid_len) c.in-Err.ensures.cases.0)
 
 pub returns-in-Ok-clause-ok : goal.returns-in-Ok-clause-ok
 returns-in-Ok-clause-ok c =
     let text = c.args.bytes.now in
     let tree : document text ≡ Ok c.in-Ok.tree = search rules in
     placed_text text (omega arith) c.in_default.ensures.cases.1 ∙ ap (placed text) tree
+
+pub returns-in-Ok-clause-sound : goal.returns-in-Ok-clause-sound
+returns-in-Ok-clause-sound c = tree_fine c.args.bytes.now c.in-Ok.tree (returns-in-Ok-clause-ok c)
 
 pub returns-in-Err-Refused-clause-refused : goal.returns-in-Err-Refused-clause-refused
 returns-in-Err-Refused-clause-refused c =

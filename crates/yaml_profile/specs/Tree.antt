@@ -1,0 +1,27 @@
+-- What every tree is like that is read.
+use Rattle.std.specs.Prelude.{ℕ, zero, suc, List, [], ◌∷◌, map, IsUtf8}
+use Rattle.file_info.specs.Lists.{IsDistinct}
+use Rattle.yaml_profile.specs.declared.yaml.Yaml.{Yaml, out-Yaml}
+use Rattle.yaml_profile.specs.declared.yaml.Yaml.TheOpen.{Yaml-F}
+use Rattle.yaml_profile.specs.declared.yaml.Pair.{Pair, out-Pair}
+
+abbrev pub Each : {A : Type 0} → (A → Type 0) → List A → Type 0
+Each P [] = Unit {0}
+Each P (x ∷ xs) = P x × Each P xs
+
+abbrev pub name_of : Pair → List ℕ
+name_of p = (out-Pair p).name
+
+abbrev pub value_of : Pair → Yaml
+value_of p = (out-Pair p).value
+
+-- a tree whose texts are UTF-8, by what its nodes are
+abbrev pub IsNode : (Yaml → Type 0) → Yaml-F Yaml Pair → Type 0
+IsNode P (Yaml-F.Scalar text) = IsUtf8 text
+IsNode P (Yaml-F.Seq items) = Each P items
+IsNode P (Yaml-F.Map pairs) = Each (λ p. IsUtf8 (name_of p) × P (value_of p)) pairs × IsDistinct (map name_of pairs)
+
+-- collections nest no deeper than the number, each text and each name is UTF-8, and no mapping has a name twice
+unfoldable pub IsTree : ℕ → Yaml → Type 0
+IsTree zero tree = IsNode (λ _. ⊥) (out-Yaml tree)
+IsTree (suc depth) tree = IsNode (IsTree depth) (out-Yaml tree)
