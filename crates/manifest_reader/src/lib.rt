@@ -12,3 +12,5 @@ mod order;
 mod places;
 mod sections;
 mod shapes;
+#[cfg(test)]
+mod tests;
