@@ -11,7 +11,7 @@ pub position_within : {X : Type 0} (p : X → Bool) (xs : List X) (r : Option �
 position_within p xs r h = grind (arith, common_steps, nat_tests)
 
 -- the place in a longer list
-position_cons : {X : Type 0} (p : X → Bool) (x : X) (xs : List X) → position p (x ∷ xs) ≡ cond (p x) (Some 0) (option_map suc (position p xs))
+pub position_cons : {X : Type 0} (p : X → Bool) (x : X) (xs : List X) → position p (x ∷ xs) ≡ cond (p x) (Some 0) (option_map suc (position p xs))
 position_cons p x xs = grind (arith, common_steps, nat_tests)
 
 -- one place further on

@@ -41,9 +41,3 @@ Answers (Err e) expected = Refuses e (expected ≡ None)
 abbrev pub Passes : {A : Type 0} → Result A LoadError → Bool → Type 0
 Passes (Ok found) test = test ≡ true
 Passes (Err e) test = Refuses e (test ≡ false)
-
--- the error comes from what the tree says, or from want of memory
-abbrev pub IsPastText : LoadError → Type 0
-IsPastText (load.Yaml e) = ⊥
-IsPastText load.NotYet = Unit {0}
-IsPastText load.NoMemory = Unit {0}

@@ -1,4 +1,11 @@
 pub mod Errors
+pub mod Tree
+pub mod Nodes
+pub mod Attributes
+pub mod Sorted
+pub mod Sections
 pub mod Places
+pub mod Rules
 pub mod Makers
 pub mod Manifest
+pub mod Load

@@ -1,5 +1,5 @@
 -- The makers that were noted.
-use Rattle.std.specs.Prelude.{ℕ, Option}
+use Rattle.std.specs.Prelude.{ℕ, Bool, false, not, nat_lt, Option, Some, None}
 use Rattle.indexmap.specs.IndexMap.{get_by_text}
 use Rattle.file_info.specs.declared.node.NodeName.{NodeName}
 use Rattle.file_info.specs.declared.node.NodeName.TheVariants.{Path, Virtual}
@@ -9,3 +9,8 @@ use Rattle.manifest_reader.specs.declared.makers.Makers.{Makers}
 abbrev pub noted_maker : Makers → NodeName → Option ℕ
 noted_maker makers (Path p) = get_by_text makers.paths p
 noted_maker makers (Virtual n) = get_by_text makers.virtuals n
+
+-- the place is there, and is this one or a later one
+abbrev pub is_from : ℕ → Option ℕ → Bool
+is_from place None = false
+is_from place (Some maker) = not (nat_lt maker place)

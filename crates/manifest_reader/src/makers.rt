@@ -1,11 +1,12 @@
 //! The makers of nodes.
-ghost use Rattle.std.specs.Prelude.{◌≡◌, ℕ, None, Some, cond, OnOk, IfOk, IfErr};
+ghost use Rattle.std.specs.Prelude.{◌≡◌, None, Some, cond, OnOk, IfOk};
 ghost use Rattle.std.specs.List.{list_any};
-ghost use Rattle.std.specs.Option.{option_or};
+ghost use Rattle.std.specs.Option.{option_or, is_none};
 ghost use Rattle.file_info.specs.declared.node.NodeName.{NodeName as Node};
-ghost use Rattle.manifest_reader.specs.Errors.{IsPastText};
+ghost use Rattle.manifest_reader.specs.Errors.{Passes};
 ghost use Rattle.manifest_reader.specs.Places.{is_node, maker_of};
 ghost use Rattle.manifest_reader.specs.Makers.{noted_maker};
+ghost use Rattle.manifest_reader.specs.Rules.{all_outputs, are_new, differ};
 
 use crate::command::Command;
 use crate::error::LoadError;
@@ -35,8 +36,7 @@ impl Makers {
 
     // Notes the maker of a node. `NotYet` where the node has one.
     fn add(&mut self, alloc: Global, node: &NodeName, place: usize) -> Result<(), LoadError>
-        ensures past { IfErr result IsPastText }
-        ensures fresh { OnOk result (noted_maker self.old node.now ≡ None) }
+        ensures passes { Passes result (is_none (noted_maker self.old node.now)) }
         ensures noted { OnOk result ((n : Node) → noted_maker self.new n ≡ option_or (noted_maker self.old n) (cond (is_node n node.now) (Some place) None)) }
     {
         match node {
@@ -45,14 +45,14 @@ impl Makers {
         }
     }
 
-    // Notes the maker of each of these nodes.
+    // Notes the maker of each of these nodes. `NotYet` where one has a maker, or stands twice.
     fn add_all(
         &mut self,
         alloc: Global,
         nodes: &List<NodeName>,
         place: usize,
     ) -> Result<(), LoadError>
-        ensures past { IfErr result IsPastText }
+        ensures passes { Passes result (are_new is_node (noted_maker self.old) nodes.now) }
         ensures noted { OnOk result ((n : Node) → noted_maker self.new n ≡ option_or (noted_maker self.old n) (cond (list_any (is_node n) nodes.now) (Some place) None)) }
     {
         for node in nodes.as_slice() {
@@ -64,7 +64,7 @@ impl Makers {
 
 /// The makers of all outputs. `NotYet` where a node is an output twice.
 pub fn makers_of(alloc: Global, commands: &List<Command>) -> Result<Makers, LoadError>
-    ensures past { IfErr result IsPastText }
+    ensures passes { Passes result (differ is_node (all_outputs commands.now)) }
     ensures noted { IfOk result (λ makers. (n : Node) → noted_maker makers n ≡ maker_of commands.now n) }
 {
     let mut makers = Makers {

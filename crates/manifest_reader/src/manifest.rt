@@ -1,9 +1,10 @@
 //! A loaded manifest.
-ghost use Rattle.std.specs.Prelude.{◌≡◌, ◌↔◌, ◌<◌, None, IsSome, IfSome, IfOk, IfErr, length, slice_get};
+ghost use Rattle.std.specs.Prelude.{◌≡◌, ◌↔◌, ◌<◌, IsSome, IfSome, length, slice_get};
 ghost use Rattle.std.specs.Option.{option_copied};
-ghost use Rattle.manifest_reader.specs.Errors.{IsPastText};
+ghost use Rattle.manifest_reader.specs.Errors.{Answers};
 ghost use Rattle.manifest_reader.specs.Places.{command_place, maker_of, target_named};
 ghost use Rattle.manifest_reader.specs.Manifest.{default_of};
+ghost use Rattle.manifest_reader.specs.Load.{lists_of};
 
 use crate::command::{Command, TargetEntry};
 use crate::error::LoadError;
@@ -39,14 +40,13 @@ impl Model for Manifest {
 impl Manifest {
     /// The manifest of these targets and commands. `NotYet` where two targets or two commands have one name, where a node
     /// is an output twice, or where a command has an input that it or a later command makes.
+    #[tactic(auto, unfolding(crate::specs::Load::lists_of))]
     pub(crate) fn of(
         alloc: Global,
         targets: List<TargetEntry>,
         commands: List<Command>,
     ) -> Result<Manifest, LoadError>
-        ensures past { IfErr result IsPastText }
-        ensures targets { IfOk result (λ manifest. manifest.targets ≡ targets) }
-        ensures commands { IfOk result (λ manifest. manifest.commands ≡ commands) }
+        ensures { Answers result (lists_of targets commands) }
     {
         let target_places = target_places(alloc, &targets)?;
         let command_places = command_places(alloc, &commands)?;

@@ -1,10 +1,10 @@
 //! Places in a list, by texts.
-ghost use Rattle.std.specs.Prelude.{◌≡◌, ℕ, List as Items, None, Some, cond, OnOk, IfOk, IfErr};
-ghost use Rattle.std.specs.Option.{option_or};
-ghost use Rattle.std.specs.Str.{bytes_eq};
+ghost use Rattle.std.specs.Prelude.{◌≡◌, ℕ, List as Items, None, Some, cond, bytes_eq, OnOk, IfOk};
+ghost use Rattle.std.specs.Option.{option_or, is_none};
 ghost use Rattle.indexmap.specs.IndexMap.{get_by_text};
-ghost use Rattle.manifest_reader.specs.Errors.{IsPastText};
+ghost use Rattle.manifest_reader.specs.Errors.{Passes};
 ghost use Rattle.manifest_reader.specs.Places.{command_place, target_place};
+ghost use Rattle.manifest_reader.specs.Rules.{differ, target_names, command_names};
 
 use crate::command::{Command, TargetEntry};
 use crate::error::LoadError;
@@ -17,8 +17,7 @@ pub type Places = IndexMap<String, usize>;
 
 /// Notes the place of a text. `NotYet` where the text has one.
 pub fn note(alloc: Global, places: &mut Places, text: &str, place: usize) -> Result<(), LoadError>
-    ensures past { IfErr result IsPastText }
-    ensures fresh { OnOk result (get_by_text places.old text.now ≡ None) }
+    ensures passes { Passes result (is_none (get_by_text places.old text.now)) }
     ensures noted { OnOk result ((q : Items ℕ) → get_by_text places.new q ≡ option_or (get_by_text places.old q) (cond (bytes_eq q text.now) (Some place) None)) }
 {
     let text = String::from_str(alloc, text)?;
@@ -30,7 +29,7 @@ pub fn note(alloc: Global, places: &mut Places, text: &str, place: usize) -> Res
 
 /// The places of the targets by their names. `NotYet` where two have one name.
 pub fn target_places(alloc: Global, targets: &List<TargetEntry>) -> Result<Places, LoadError>
-    ensures past { IfErr result IsPastText }
+    ensures passes { Passes result (differ bytes_eq (target_names targets.now)) }
     ensures placed { IfOk result (λ places. (q : Items ℕ) → get_by_text places q ≡ target_place targets.now q) }
 {
     let mut places = IndexMap::new(alloc);
@@ -42,7 +41,7 @@ pub fn target_places(alloc: Global, targets: &List<TargetEntry>) -> Result<Place
 
 /// The places of the commands by their names. `NotYet` where two have one name.
 pub fn command_places(alloc: Global, commands: &List<Command>) -> Result<Places, LoadError>
-    ensures past { IfErr result IsPastText }
+    ensures passes { Passes result (differ bytes_eq (command_names commands.now)) }
     ensures placed { IfOk result (λ places. (q : Items ℕ) → get_by_text places q ≡ command_place commands.now q) }
 {
     let mut places = IndexMap::new(alloc);

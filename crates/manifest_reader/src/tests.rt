@@ -7,6 +7,7 @@ use file_info::node::NodeName;
 use file_info::path::PathName;
 use std::alloc::Global;
 use std::test::Fail;
+use yaml_profile::{Feature, YamlError};
 
 // The manifest of a client, targets and commands.
 fn text_of(alloc: Global, client: &str, targets: &str, commands: &str) -> Result<String, Fail> {
@@ -58,22 +59,72 @@ const BAD_COMMANDS: [&str; 19] = [
     "  q:\n    tool: shell\n    inputs: [t]\n    outputs: [u]\n    args: [a]\n  p:\n    tool: shell\n    outputs: [t]\n    args: [a]\n",
 ];
 
-// Whole texts that are refused.
-const TEXTS: [&str; 5] = [
+// Whole texts that break a rule of the sections.
+const TEXTS: [&str; 9] = [
     "",
-    "client:\n  name: basic\ntargets:\n  all: []\n",
-    "client:\n  name: basic\ncommands:\n  p:\n    tool: shell\n    outputs: [t]\n    args: [a]\ntargets:\n  all: []\n",
-    "client:\n  name: basic\ntargets:\n  all: []\ncommands: []\n",
-    "client:\n  name: basic\ntools: []\ntargets:\n  all: []\ncommands:\n  p:\n    tool: shell\n    outputs: [t]\n    args: [a]\n",
+    "[]",
+    "client: {name: basic}\ntargets: {all: []}\n",
+    "client: {name: basic}\ncommands: {}\ntargets: {all: []}\n",
+    "client: {name: basic}\ntargets: {all: []}\ncommands: []\n",
+    "client: {name: basic}\ntargets: []\ncommands: {}\n",
+    "client: basic\ntargets: {}\ncommands: {}\n",
+    "client: {name: basic}\ntools: {}\ntargets: {}\ncommands: {}\n",
+    "client: {name: basic}\ntargets: {}\ncommands: {}\ndefault: all\n",
 ];
+
+// Texts that are manifests, as flow collections and as blocks.
+const MANIFESTS: [&str; 7] = [
+    "client: {name: basic}\ntargets: {}\ncommands: {}\n",
+    "{client: {name: basic}, targets: {\"\\u00E9\": [u]}, commands: {}}",
+    "client: {name: basic}\ntargets: {all: [<, a>, b/c]}\ncommands: {}\n",
+    "---\n# build\nclient:\n  name: 'basic'\ntargets:\n  all:\n  - u\ncommands:\n  p: {tool: shell, outputs: [u], args: [a]}\n",
+    "client: {name: basic}\ntargets: {p: [t]}\ncommands:\n  p: {tool: shell, inputs: [], outputs: [t], args: [\"\"]}\n  t: {args: [a, b], outputs: [u, v], inputs: [t, t], tool: shell}\n",
+    "client: {name: basic}\ntargets: {}\ncommands:\n  p: {tool: shell, inputs: [x], outputs: [t], args: [a]}\n  q: {tool: shell, inputs: [./t, x], outputs: [u], args: [a]}\n",
+    "client: {name: basic}\ntargets: {}\ncommands:\n  p:\n    tool: shell\n    outputs:\n    - t\n    args:\n    - \"a\\nb\"\n",
+];
+
+// What stands in the section of the commands, and breaks a rule.
+const FLOW_COMMANDS: [&str; 14] = [
+    "[]",
+    "p",
+    "{p: [shell]}",
+    "{\"\": {tool: shell, outputs: [t], args: [a]}}",
+    "{\"a\\tb\": {tool: shell, outputs: [t], args: [a]}}",
+    "{p: {tool: shell, outputs: [<t>], args: [a]}}",
+    "{p: {tool: shell, outputs: [<>], args: [a]}}",
+    "{p: {tool: shell, outputs: [\"\"], args: [a]}}",
+    "{p: {tool: shell, outputs: [[t]], args: [a]}}",
+    "{p: {tool: shell, outputs: [t], args: [\"a\\0\"]}}",
+    "{p: {tool: shell, outputs: [t], args: [a, {}]}}",
+    "{p: {tool: shell, outputs: [t], args: [a], inputs: [t]}}",
+    "{p: {tool: shell, outputs: [t], args: [a], env: {}}}",
+    "{p: {tool: shell, outputs: [t, t], args: [a]}}",
+];
+
+// What becomes of a text.
+#[derive(Clone, Copy, Debug, PartialEq, Eq)]
+enum Outcome {
+    Loaded,
+    NotYet,
+    Yaml(YamlError),
+}
+
+fn outcome_of(alloc: Global, text: &[u8]) -> Result<Outcome, Fail> {
+    match load(alloc, text) {
+        Ok(_) => Ok(Outcome::Loaded),
+        Err(LoadError::NotYet) => Ok(Outcome::NotYet),
+        Err(LoadError::Yaml(error)) => Ok(Outcome::Yaml(error)),
+        Err(LoadError::NoMemory) => Err(Fail::from("no memory")),
+    }
+}
 
 // Whether the manifest of these parts is served. Any refusal but `NotYet` fails.
 fn is_served(alloc: Global, client: &str, targets: &str, commands: &str) -> Result<bool, Fail> {
     let text = text_of(alloc, client, targets, commands)?;
-    match load(alloc, text.as_bytes()) {
-        Ok(_) => Ok(true),
-        Err(LoadError::NotYet) => Ok(false),
-        Err(_) => Err(Fail::from("another error")),
+    match outcome_of(alloc, text.as_bytes())? {
+        Outcome::Loaded => Ok(true),
+        Outcome::NotYet => Ok(false),
+        Outcome::Yaml(_) => Err(Fail::from("another error")),
     }
 }
 
@@ -97,17 +148,95 @@ fn bad_commands_are_refused(rt: HostRuntime) -> Result<(), Fail> {
             "{commands}"
         );
     }
+    for commands in FLOW_COMMANDS {
+        let text = format!(in rt.alloc();
+            "client: {{name: basic}}\ntargets: {{}}\ncommands: {commands}\n"
+        )?;
+        assert_eq!(rt;
+            outcome_of(rt.alloc(), text.as_bytes())?,
+            Outcome::NotYet,
+            "{commands}"
+        );
+    }
     Ok(())
 }
 
 #[test]
-fn other_texts_are_refused(rt: HostRuntime) {
+fn whole_texts(rt: HostRuntime) -> Result<(), Fail> {
     for text in TEXTS {
-        assert!(rt;
-            matches!(load(rt.alloc(), text.as_bytes()), Err(LoadError::NotYet)),
+        assert_eq!(rt;
+            outcome_of(rt.alloc(), text.as_bytes())?,
+            Outcome::NotYet,
             "{text}"
         );
     }
+    for text in MANIFESTS {
+        assert_eq!(rt;
+            outcome_of(rt.alloc(), text.as_bytes())?,
+            Outcome::Loaded,
+            "{text}"
+        );
+    }
+    Ok(())
+}
+
+#[test]
+fn texts_that_the_reader_refuses(rt: HostRuntime) -> Result<(), Fail> {
+    let deep = "[".repeat(rt.alloc(), 65)?;
+    let anchor = YamlError::LeftOut {
+        feature: Feature::Anchor,
+        at: 8,
+    };
+    for (text, error) in [
+        (b"client: &a {name: basic}".as_slice(), anchor),
+        (
+            b"client: {name: basic}\ntargets: {all: [a".as_slice(),
+            YamlError::Syntax { at: 39 },
+        ),
+        (deep.as_bytes(), YamlError::TooDeep { at: 64 }),
+        (b"client: \xFF".as_slice(), YamlError::NotUtf8 { at: 8 }),
+        (
+            b"client: a\nclient: b\n".as_slice(),
+            YamlError::RepeatedKey { at: 10 },
+        ),
+        (
+            b"client:\n  a: b\n c: d\n".as_slice(),
+            YamlError::Indent { at: 16 },
+        ),
+    ] {
+        assert_eq!(rt; outcome_of(rt.alloc(), text)?, Outcome::Yaml(error));
+    }
+    Ok(())
+}
+
+// The manifest of a target with this many nodes, and of this many targets.
+fn wide_text(alloc: Global, nodes: usize, targets: usize) -> Result<String, Fail> {
+    let nodes = "n, ".repeat(alloc, nodes)?;
+    let mut text = format!(in alloc; "client: {{name: basic}}\ntargets: {{t: [{nodes}]")?;
+    for target in 1..targets {
+        let more = format!(in alloc; ", t{target}: []")?;
+        text.push_str(more.as_str())?;
+    }
+    text.push_str("}\ncommands: {}\n")?;
+    Ok(text)
+}
+
+#[test]
+fn limits_are_the_most_that_is_served(rt: HostRuntime) -> Result<(), Fail> {
+    for (nodes, targets, outcome) in [
+        (65_536, 1, Outcome::Loaded),
+        (65_537, 1, Outcome::NotYet),
+        (1, 65_536, Outcome::Loaded),
+        (1, 65_537, Outcome::NotYet),
+    ] {
+        let text = wide_text(rt.alloc(), nodes, targets)?;
+        assert_eq!(rt;
+            outcome_of(rt.alloc(), text.as_bytes())?,
+            outcome,
+            "at {nodes} nodes and {targets} targets"
+        );
+    }
+    Ok(())
 }
 
 fn loaded(alloc: Global) -> Result<Manifest, Fail> {
