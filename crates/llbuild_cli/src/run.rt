@@ -1,5 +1,9 @@
 //! The program's own call.
-ghost use Rattle.std.specs.Prelude.{◌≡◌, [], ◌<◌};
+ghost use Rattle.std.specs.Prelude.{◌≡◌, ◌⊎◌, [], ◌<◌, Some, None, map, string_bytes, IfOk, IfErr};
+ghost use Rattle.llbuild_cli.specs.Status.{status_of};
+ghost use Rattle.llbuild_cli.specs.Texts.{failure_text};
+ghost use Rattle.llbuild_cli.specs.Words.{job_of};
+ghost use Rattle.llbuild_cli.specs.Written.{WroteUnlessFault};
 
 use crate::build::build;
 use crate::put_all::put_all;
@@ -23,11 +27,14 @@ use yaml_profile::YamlError;
 pub const MANIFEST_MAX: u64 = 67_108_864;
 
 // The job that the words ask for.
-fn job_of(alloc: Global, words: &[String]) -> Result<Job, End<NoFault>> {
+fn job_of(alloc: Global, words: &[String]) -> Result<Job, End<NoFault>>
+    ensures ok { IfOk result (λ job. job_of (map string_bytes words.now) ≡ Some job) }
+    ensures refused { IfErr result (λ end. (end ≡ End.NoMemory) ⊎ ((end ≡ End.Usage UsageFault.Words) × (job_of (map string_bytes words.now) ≡ None))) }
+{
     match read_words(alloc, words) {
         Ok(job) => Ok(job),
         Err(UsageFault::NoMemory) => Err(End::NoMemory),
-        Err(fault) => Err(End::Usage(fault)),
+        Err(UsageFault::Words) => Err(End::Usage(UsageFault::Words)),
     }
 }
 
@@ -79,7 +86,10 @@ fn serve<L: Law, W: World<L>, O: Sink>(
 }
 
 // Writes why a run failed. A fault there changes nothing.
-fn tell<E: Sink>(alloc: Global, end: End<NoFault>, err: &mut E) -> End<NoFault> {
+fn tell<E: Sink>(alloc: Global, end: End<NoFault>, err: &mut E) -> End<NoFault>
+    ensures end { (result ≡ end) ⊎ (result ≡ End.NoMemory) }
+    ensures wrote { WroteUnlessFault (E.bytes err.old) (E.bytes err.new) (E.faults err.old) (E.faults err.new) (failure_text result) }
+{
     match failure_text(alloc, &end) {
         Ok(text) => {
             let _ = put_all(err, text.as_slice());
@@ -102,6 +112,8 @@ pub fn run_alone<L: Law, W: World<L>, O: Sink, E: Sink>(
     err: &mut E,
 ) -> Finish<NoFault>
     requires { W.orders world.old ≡ [] }
+    ensures status { result.status ≡ status_of result.report.end }
+    ensures failure { WroteUnlessFault (E.bytes err.old) (E.bytes err.new) (E.faults err.old) (E.faults err.new) (failure_text result.report.end) }
 {
     let mut seen = Seen::new(alloc);
     let end = match serve(alloc, words, world, out, &mut seen) {

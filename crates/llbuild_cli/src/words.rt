@@ -1,4 +1,7 @@
 //! The words of the command line.
+ghost use Rattle.std.specs.Prelude.{◌≡◌, ◌⊎◌, Some, None, map, string_bytes, IfOk, IfErr};
+ghost use Rattle.llbuild_cli.specs.Words.{is_form, job_of, path_of};
+
 use file_info::list::{Bytes, List};
 use file_info::path::{PathError, PathName};
 use std::alloc::Global;
@@ -21,23 +24,50 @@ pub struct Job {
     pub target: Bytes,
 }
 
+// Whether the words in front are `buildsystem build --serial --no-db -f`.
+#[tactic(auto, unfolding(crate::specs::Words::is_form))]
+fn is_form(system: &str, build: &str, serial: &str, no_db: &str, option: &str) -> bool
+    ensures { result ≡ is_form system.now build.now serial.now no_db.now option.now }
+{
+    system == "buildsystem"
+        && build == "build"
+        && serial == "--serial"
+        && no_db == "--no-db"
+        && option == "-f"
+}
+
+// The path of a word.
+#[tactic(auto, using(crate::proofs::WordPath::path_accepted, crate::proofs::WordPath::path_refused))]
+fn path_of(alloc: Global, word: &str) -> Result<PathName, UsageFault>
+    ensures ok { IfOk result (λ path. path_of word.now ≡ Some path) }
+    ensures refused { IfErr result (λ fault. (fault ≡ UsageFault.NoMemory) ⊎ (path_of word.now ≡ None)) }
+{
+    match PathName::read(alloc, word) {
+        Ok(path) => Ok(path),
+        Err(PathError::NoMemory) => Err(UsageFault::NoMemory),
+        Err(_) => Err(UsageFault::Words),
+    }
+}
+
 /// Reads `buildsystem build --serial --no-db -f FILE TARGET`. All other words are refused, and so is a FILE that is no
 /// path.
-pub fn read_words(alloc: Global, words: &[String]) -> Result<Job, UsageFault> {
+pub fn read_words(alloc: Global, words: &[String]) -> Result<Job, UsageFault>
+    ensures ok { IfOk result (λ job. job_of (map string_bytes words.now) ≡ Some job) }
+    ensures refused { IfErr result (λ fault. (fault ≡ UsageFault.NoMemory) ⊎ (job_of (map string_bytes words.now) ≡ None)) }
+{
     let [system, build, serial, no_db, option, file, target] = words else {
         return Err(UsageFault::Words);
     };
-    if system.as_str() != "buildsystem" || build.as_str() != "build" {
+    if !is_form(
+        system.as_str(),
+        build.as_str(),
+        serial.as_str(),
+        no_db.as_str(),
+        option.as_str(),
+    ) {
         return Err(UsageFault::Words);
     }
-    if serial.as_str() != "--serial" || no_db.as_str() != "--no-db" || option.as_str() != "-f" {
-        return Err(UsageFault::Words);
-    }
-    let file = match PathName::read(alloc, file.as_str()) {
-        Ok(file) => file,
-        Err(PathError::NoMemory) => return Err(UsageFault::NoMemory),
-        Err(_) => return Err(UsageFault::Words),
-    };
+    let file = path_of(alloc, file.as_str())?;
     match Vec::from_slice(alloc, target.as_bytes()) {
         Ok(target) => Ok(Job {
             file,
@@ -46,3 +76,6 @@ pub fn read_words(alloc: Global, words: &[String]) -> Result<Job, UsageFault> {
         Err(_) => Err(UsageFault::NoMemory),
     }
 }
+
+#[cfg(test)]
+mod tests;
