@@ -1,1 +1,3 @@
+pub mod Short
 pub mod Sinks
+pub mod Spelling
