@@ -4,3 +4,4 @@ pub mod Texts
 pub mod Status
 pub mod Words
 pub mod Written
+pub mod Program

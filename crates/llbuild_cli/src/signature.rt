@@ -1,4 +1,14 @@
 //! The canonical text of a shell command's meaning, and the order that it gives.
+ghost use Rattle.std.specs.Prelude.{◌≡◌, ◌<◌, ◌^◌, ◌∷◌, [], ◌++◌, length, map, IfOk, OnOk};
+ghost use Rattle.file_info.specs.Content.{node_text};
+ghost use Rattle.file_info.specs.Lists.{IsDistinct};
+ghost use Rattle.outside.specs.Spelled.{count_bytes, flag_bytes, text_bytes, list_bytes, node_bytes};
+ghost use Rattle.outside.specs.Meaning.{key_bytes, env_bytes, signature_of};
+ghost use Rattle.outside.specs.Formed.{AreReadsOf, IsActOf, IsOrderOf, paths_of};
+ghost use Rattle.manifest_reader.specs.declared.command.Tool.TheVariants as tools;
+ghost use Rattle.build_meaning.specs.Commands.{key_of, variable_of, meaning_of};
+ghost use Rattle.llbuild_cli.specs.Program.{program_bytes, definition_bytes, words_of};
+
 use file_info::copied::Copied;
 use file_info::list::{Bytes, List};
 use file_info::memory::NoMemory;
@@ -19,22 +29,31 @@ const TREE: u8 = 5;
 const STRUCTURE: u8 = 6;
 
 // A count in four bytes, the highest first.
-fn push_count(out: &mut Vec<u8>, count: usize) -> Result<(), AllocError> {
+#[tactic(auto, unfolding(outside::specs::Spelled::count_bytes))]
+fn push_count(out: &mut Vec<u8>, count: usize) -> Result<(), AllocError>
+    ensures { OnOk result (out.new.items ≡ out.old.items ++ count_bytes count) }
+{
     out.extend_from_slice(&(count as u64).to_be_bytes()[4..])
 }
 
 // A text: its length and its bytes.
-fn push_text(out: &mut Vec<u8>, text: &[u8]) -> Result<(), AllocError> {
+fn push_text(out: &mut Vec<u8>, text: &[u8]) -> Result<(), AllocError>
+    ensures { OnOk result (out.new.items ≡ out.old.items ++ text_bytes text.now) }
+{
     push_count(out, text.len())?;
     out.extend_from_slice(text)
 }
 
-fn push_flag(out: &mut Vec<u8>, flag: bool) -> Result<(), AllocError> {
+fn push_flag(out: &mut Vec<u8>, flag: bool) -> Result<(), AllocError>
+    ensures { OnOk result (out.new.items ≡ out.old.items ++ flag_bytes flag) }
+{
     out.push(u8::from(flag))?;
     Ok(())
 }
 
-fn push_texts(out: &mut Vec<u8>, texts: &List<Bytes>) -> Result<(), AllocError> {
+fn push_texts(out: &mut Vec<u8>, texts: &List<Bytes>) -> Result<(), AllocError>
+    ensures { OnOk result (out.new.items ≡ out.old.items ++ list_bytes text_bytes texts.now) }
+{
     push_count(out, texts.len())?;
     for text in texts.as_slice() {
         push_text(out, text.as_slice())?;
@@ -42,7 +61,9 @@ fn push_texts(out: &mut Vec<u8>, texts: &List<Bytes>) -> Result<(), AllocError> 
     Ok(())
 }
 
-fn push_node(out: &mut Vec<u8>, node: &NodeName) -> Result<(), AllocError> {
+fn push_node(out: &mut Vec<u8>, node: &NodeName) -> Result<(), AllocError>
+    ensures { OnOk result (out.new.items ≡ out.old.items ++ node_bytes node.now) }
+{
     match node {
         NodeName::Path(path) => {
             out.push(0)?;
@@ -56,7 +77,9 @@ fn push_node(out: &mut Vec<u8>, node: &NodeName) -> Result<(), AllocError> {
 }
 
 // The text of a node, without what tells paths and virtual names apart.
-fn node_text(node: &NodeName) -> &str {
+fn text_of(node: &NodeName) -> &str
+    ensures { result.now ≡ node_text node.now }
+{
     match node {
         NodeName::Path(path) => path.text(),
         NodeName::Virtual(name) => name.text(),
@@ -68,13 +91,17 @@ fn push_listed(
     tag: u8,
     node: &NodeName,
     patterns: &List<Bytes>,
-) -> Result<(), AllocError> {
+) -> Result<(), AllocError>
+    ensures { OnOk result (out.new.items ≡ out.old.items ++ tag ∷ text_bytes (node_text node.now) ++ list_bytes text_bytes patterns.now) }
+{
     out.push(tag)?;
-    push_text(out, node_text(node).as_bytes())?;
+    push_text(out, text_of(node).as_bytes())?;
     push_texts(out, patterns)
 }
 
-fn push_key(out: &mut Vec<u8>, input: &Input) -> Result<(), AllocError> {
+fn push_key(out: &mut Vec<u8>, input: &Input) -> Result<(), AllocError>
+    ensures { OnOk result (out.new.items ≡ out.old.items ++ key_bytes (key_of input.now)) }
+{
     match &input.form {
         InputForm::File | InputForm::Virtual => {
             out.push(NODE)?;
@@ -85,7 +112,9 @@ fn push_key(out: &mut Vec<u8>, input: &Input) -> Result<(), AllocError> {
     }
 }
 
-fn push_keys(out: &mut Vec<u8>, inputs: &List<Input>) -> Result<(), AllocError> {
+fn push_keys(out: &mut Vec<u8>, inputs: &List<Input>) -> Result<(), AllocError>
+    ensures { OnOk result (out.new.items ≡ out.old.items ++ list_bytes key_bytes (map key_of inputs.now)) }
+{
     push_count(out, inputs.len())?;
     for input in inputs.as_slice() {
         push_key(out, input)?;
@@ -93,7 +122,9 @@ fn push_keys(out: &mut Vec<u8>, inputs: &List<Input>) -> Result<(), AllocError> 
     Ok(())
 }
 
-fn push_nodes(out: &mut Vec<u8>, nodes: &List<NodeName>) -> Result<(), AllocError> {
+fn push_nodes(out: &mut Vec<u8>, nodes: &List<NodeName>) -> Result<(), AllocError>
+    ensures { OnOk result (out.new.items ≡ out.old.items ++ list_bytes node_bytes nodes.now) }
+{
     push_count(out, nodes.len())?;
     for node in nodes.as_slice() {
         push_node(out, node)?;
@@ -101,7 +132,9 @@ fn push_nodes(out: &mut Vec<u8>, nodes: &List<NodeName>) -> Result<(), AllocErro
     Ok(())
 }
 
-fn push_env(out: &mut Vec<u8>, env: &List<EnvPair>) -> Result<(), AllocError> {
+fn push_env(out: &mut Vec<u8>, env: &List<EnvPair>) -> Result<(), AllocError>
+    ensures { OnOk result (out.new.items ≡ out.old.items ++ list_bytes env_bytes (map variable_of env.now)) }
+{
     push_count(out, env.len())?;
     for pair in env.as_slice() {
         push_text(out, pair.name.as_slice())?;
@@ -110,7 +143,9 @@ fn push_env(out: &mut Vec<u8>, env: &List<EnvPair>) -> Result<(), AllocError> {
     Ok(())
 }
 
-fn push_paths(out: &mut Vec<u8>, paths: &List<PathName>) -> Result<(), AllocError> {
+fn push_paths(out: &mut Vec<u8>, paths: &List<PathName>) -> Result<(), AllocError>
+    ensures { OnOk result (out.new.items ≡ out.old.items ++ list_bytes text_bytes paths.now) }
+{
     push_count(out, paths.len())?;
     for path in paths.as_slice() {
         push_text(out, path.text().as_bytes())?;
@@ -118,7 +153,9 @@ fn push_paths(out: &mut Vec<u8>, paths: &List<PathName>) -> Result<(), AllocErro
     Ok(())
 }
 
-fn push_args(out: &mut Vec<u8>, args: &Args) -> Result<(), AllocError> {
+fn push_args(out: &mut Vec<u8>, args: &Args) -> Result<(), AllocError>
+    ensures { OnOk result (out.new.items ≡ out.old.items ++ program_bytes args.now) }
+{
     match args {
         Args::Absent => {
             out.push(0)?;
@@ -137,7 +174,9 @@ fn push_args(out: &mut Vec<u8>, args: &Args) -> Result<(), AllocError> {
 }
 
 // What is run: a signature of the command's own, or else its words and its variables.
-fn push_program(out: &mut Vec<u8>, command: &Command) -> Result<(), AllocError> {
+fn push_program(out: &mut Vec<u8>, command: &Command) -> Result<(), AllocError>
+    ensures { OnOk result (out.new.items ≡ out.old.items ++ definition_bytes command.now.signature command.now.args command.now.env) }
+{
     match &command.signature {
         Some(signature) => {
             push_flag(out, true)?;
@@ -152,7 +191,9 @@ fn push_program(out: &mut Vec<u8>, command: &Command) -> Result<(), AllocError> 
 }
 
 /// The signature of a shell command: equal texts mean commands that do the same.
-pub fn signature(alloc: Global, command: &Command) -> Result<Bytes, NoMemory> {
+pub fn signature(alloc: Global, command: &Command) -> Result<Bytes, NoMemory>
+    ensures { command.now.tool ≡ tools.Shell → IfOk result (λ text. text ≡ signature_of (meaning_of command.now)) }
+{
     let mut out = Vec::new(alloc);
     out.push(SHELL)?;
     push_keys(&mut out, &command.inputs)?;
@@ -167,7 +208,9 @@ pub fn signature(alloc: Global, command: &Command) -> Result<Bytes, NoMemory> {
 }
 
 // The variables that are set for a command.
-fn variables(alloc: Global, env: &List<EnvPair>) -> Result<List<EnvText>, NoMemory> {
+fn variables(alloc: Global, env: &List<EnvPair>) -> Result<List<EnvText>, NoMemory>
+    ensures { IfOk result (λ variables. variables ≡ map variable_of env.now) }
+{
     let mut variables = List::new(alloc);
     for pair in env.as_slice() {
         variables.push(EnvText {
@@ -178,12 +221,16 @@ fn variables(alloc: Global, env: &List<EnvPair>) -> Result<List<EnvText>, NoMemo
     Ok(variables)
 }
 
-fn word(alloc: Global, text: &[u8]) -> Result<Bytes, NoMemory> {
+fn word(alloc: Global, text: &[u8]) -> Result<Bytes, NoMemory>
+    ensures { IfOk result (λ word. word ≡ text.now) }
+{
     Ok(List::from_vec(Vec::from_slice(alloc, text)?))
 }
 
 // The words of a command, or those that hand its line to the shell.
-fn words(alloc: Global, args: &Args) -> Result<List<Bytes>, NoMemory> {
+fn words(alloc: Global, args: &Args) -> Result<List<Bytes>, NoMemory>
+    ensures { IfOk result (λ words. words ≡ words_of args.now) }
+{
     match args {
         Args::Absent => Ok(List::new(alloc)),
         Args::Words(words) => words.copy(alloc),
@@ -198,11 +245,14 @@ fn words(alloc: Global, args: &Args) -> Result<List<Bytes>, NoMemory> {
 }
 
 // The paths among the nodes, in order.
-fn paths_of(alloc: Global, nodes: &List<NodeName>) -> Result<List<PathName>, NoMemory> {
+fn paths(alloc: Global, nodes: &List<NodeName>) -> Result<List<PathName>, NoMemory>
+    ensures { IfOk result (λ paths. paths ≡ paths_of nodes.now) }
+{
     let mut paths = List::new(alloc);
     for node in nodes.as_slice() {
-        if let NodeName::Path(path) = node {
-            paths.push(path.copy(alloc)?)?;
+        match node {
+            NodeName::Path(path) => paths.push(path.copy(alloc)?)?,
+            NodeName::Virtual(_) => {}
         }
     }
     Ok(paths)
@@ -214,7 +264,18 @@ pub fn order_of(
     command: &Command,
     ticket: u64,
     reads: List<Read>,
-) -> Result<Order, NoMemory> {
+) -> Result<Order, NoMemory>
+    ensures ticket { IfOk result (λ order. order.ticket ≡ ticket) }
+    ensures command { IfOk result (λ order. order.command ≡ command.now.name) }
+    ensures signature { command.now.tool ≡ tools.Shell → IfOk result (λ order. order.signature ≡ signature_of (meaning_of command.now)) }
+    ensures act { command.now.tool ≡ tools.Shell → IfOk result (λ order. IsActOf (meaning_of command.now).tool order.act) }
+    ensures reads { IfOk result (λ order. order.reads ≡ reads) }
+    ensures outputs { IfOk result (λ order. order.outputs ≡ paths_of command.now.outputs) }
+    ensures deps { IfOk result (λ order. order.deps ≡ command.now.deps) }
+    ensures links { IfOk result (λ order. order.links ≡ []) }
+    ensures formed { command.now.tool ≡ tools.Shell → AreReadsOf (meaning_of command.now).inputs reads → IsDistinct (paths_of command.now.outputs)
+        → length (signature_of (meaning_of command.now)) < 2 ^ 32 → IfOk result (IsOrderOf (meaning_of command.now)) }
+{
     let act = Act::Spawn {
         words: words(alloc, &command.args)?,
         env: variables(alloc, &command.env)?,
@@ -227,8 +288,73 @@ pub fn order_of(
         signature: signature(alloc, command)?,
         act,
         reads,
-        outputs: paths_of(alloc, &command.outputs)?,
+        outputs: paths(alloc, &command.outputs)?,
         deps: command.deps.copy(alloc)?,
         links: List::new(alloc),
     })
+}
+
+#[cfg(test)]
+mod tests {
+    use super::*;
+    use file_info::name::Name;
+    use manifest_reader::command::Tool;
+    use std::test::Fail;
+
+    fn node(alloc: Global, text: &str) -> Result<NodeName, Fail> {
+        Ok(NodeName::Path(PathName::read(alloc, text)?))
+    }
+
+    // The shell command `p`, which copies `s` to `t`.
+    fn copies(alloc: Global) -> Result<Command, Fail> {
+        let mut inputs = List::new(alloc);
+        inputs.push(Input {
+            written: Name::read(alloc, "s")?,
+            node: node(alloc, "s")?,
+            form: InputForm::File,
+        })?;
+        let mut outputs = List::new(alloc);
+        outputs.push(node(alloc, "t")?)?;
+        let mut words = List::new(alloc);
+        words.push(word(alloc, b"cp")?)?;
+        words.push(word(alloc, b"s")?)?;
+        words.push(word(alloc, b"t")?)?;
+        Ok(Command {
+            name: Name::read(alloc, "p")?,
+            tool: Tool::Shell,
+            inputs,
+            follow: List::new(alloc),
+            outputs,
+            description: None,
+            args: Args::Words(words),
+            env: List::new(alloc),
+            inherit_env: true,
+            deps: List::new(alloc),
+            signature: None,
+            contents: List::new(alloc),
+            allow_missing: false,
+            always: false,
+            expected: List::new(alloc),
+            roots: List::new(alloc),
+        })
+    }
+
+    #[test]
+    fn a_signature_has_its_parts_in_order(rt: HostRuntime) -> Result<(), Fail> {
+        let command = copies(rt.alloc())?;
+        let text = signature(rt.alloc(), &command)?;
+        // The tool; one input, nothing to follow and one output.
+        let mut expected = b"\x01\0\0\0\x01\x03\0\0\0\0\x01s\0\0\0\0\0\0\0\x01\0\0\0\0\x01t".to_vec(
+            rt.alloc(),
+        )?;
+        // No flag; no signature of its own, and three words.
+        expected.extend_from_slice(b"\0\0\0\0\0\0\0\x03\0\0\0\x02cp\0\0\0\x01s\0\0\0\x01t")?;
+        // No variables but those of the build, and no dependency files.
+        expected.extend_from_slice(b"\0\0\0\0\x01\0\0\0\0")?;
+        assert_eq!(rt; text.as_slice(), expected.as_slice());
+        let order = order_of(rt.alloc(), &command, 7, List::new(rt.alloc()))?;
+        assert_eq!(rt; order.signature.as_slice(), expected.as_slice());
+        assert_eq!(rt; order.outputs.len(), 1);
+        Ok(())
+    }
 }
