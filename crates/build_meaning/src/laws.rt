@@ -11,5 +11,4 @@ use outside::law::Law;
 pub fn single_valued<L: Law>()
     ensures { (m : Items Known) (commands : Items Command) (seen : Sights) → HasOneMaker commands → SawOnce seen
         → (p : Items ℕ) (x y : Content) → Fresh L.does m commands seen p x → Fresh L.does m commands seen p y → x ≡ y }
-{
-}
+{}
