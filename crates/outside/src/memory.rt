@@ -1,5 +1,5 @@
 //! A world in memory, in which toy commands run.
-ghost use Rattle.std.specs.Prelude.{◌≡◌, ◌<◌, ◌∷◌, ◌++◌, [], ℕ, length, IfOk, IfErr, OnOk, OnErr, IsTrue, true, false, List as Items};
+ghost use Rattle.std.specs.Prelude.{◌≡◌, ◌<◌, ◌↔◌, ◌∷◌, ◌++◌, [], ℕ, length, IfOk, IfErr, OnOk, OnErr, IsTrue, true, false, List as Items};
 ghost use Rattle.file_info.specs.Content.{Known, content};
 ghost use Rattle.file_info.specs.declared.info.Form.{Form};
 ghost use Rattle.file_info.specs.Lists.{In};
@@ -129,7 +129,7 @@ impl MemoryWorld {
 
     /// Whether some call may fail. Where none may, none has failed.
     pub fn may_fail(&self) -> bool
-        ensures empty { result ≡ false → self.now.failing ≡ [] }
+        ensures listed { IsTrue result ↔ (0 < length self.now.failing) }
         ensures quiet { result ≡ false → self.now.faults ≡ 0 }
     {
         !self.failing.is_empty()
