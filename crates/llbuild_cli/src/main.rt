@@ -19,7 +19,7 @@ mod words;
 use crate::real_world::RealWorld;
 use crate::run::run_alone;
 use crate::std_sink::StdSink;
-use outside::toy::ToyLaw;
+use memory_world::toy::ToyLaw;
 use std::process::ExitCode;
 use std::{env, io};
 

@@ -1,0 +1,101 @@
+-- Files as the list of all writes: a path holds what the last one left there.
+use Rattle.std.specs.Prelude.{◌≡◌, ◌+◌, ◌<◌, ◌&&◌, ℕ, suc, Bool, true, false, cond, eqb, IsTrue, List, [], ◌∷◌, ◌++◌, length, Option, Some, None, slice_get}
+use Rattle.std.proofs.Common.{subst}
+use Rattle.file_info.specs.Content.{Content, Known, text_at, same_list, Absent, Folder, LinkTo, Text}
+use Rattle.file_info.specs.Lists.{In}
+use Rattle.file_info.specs.declared.info.Info.{Info}
+use Rattle.file_info.specs.declared.info.Info.TheVariants.{Missing, Directory, File, Link}
+use Rattle.file_info.specs.declared.info.Form.{Form}
+use Rattle.file_info.specs.declared.info.Form.TheVariants.{Follow, Link as AsLink}
+use Rattle.memory_world.specs.declared.write.What.{What}
+use Rattle.memory_world.specs.declared.write.What.TheVariants.{Gone, Dir, Bytes, LinkText}
+use Rattle.memory_world.specs.declared.write.Write.{Write}
+
+-- one write more, with the next number
+abbrev pub put : List Write → List ℕ → What → List Write
+put ws p x = ws ++ record { path = p; number = length ws + 1; what = x } ∷ []
+
+-- the later one, if there is one
+abbrev pub later : Option Write → Option Write → Option Write
+later (Some v) o = Some v
+later None o = o
+
+-- the last write at the path
+unfoldable pub last_of : List Write → List ℕ → Option Write
+last_of [] p = None
+last_of (w ∷ ws) p = later (last_of ws p) (cond (same_list w.path p) (Some w) None)
+
+abbrev pub what_info : ℕ → What → Form → Info
+what_info n Gone f = Missing
+what_info n Dir f = Directory
+what_info n (Bytes b) f = File (length b) (n ∷ 0 ∷ 0 ∷ 0 ∷ [])
+what_info n (LinkText t) Follow = Missing
+what_info n (LinkText t) AsLink = Link t
+
+-- what stands where this was the last write, as a disk tells it
+abbrev pub info_of : Option Write → Form → Info
+info_of None f = Missing
+info_of (Some w) f = what_info w.number w.what f
+
+abbrev pub what_content : What → Form → Content
+what_content Gone f = Absent
+what_content Dir f = Folder
+what_content (Bytes b) f = Text b
+what_content (LinkText t) Follow = Absent
+what_content (LinkText t) AsLink = LinkTo t
+
+-- what stands where this was the last write
+abbrev pub content_of : Option Write → Form → Content
+content_of None f = Absent
+content_of (Some w) f = what_content w.what f
+
+-- what stands at a path. A link leads nowhere.
+abbrev pub standing : List Write → List ℕ → Form → Content
+standing ws p f = content_of (last_of ws p) f
+
+-- the map gives the bytes of this write
+abbrev pub AgreesAt : List Known → List ℕ → ℕ → What → Type 0
+AgreesAt m p n Gone = Unit {0}
+AgreesAt m p n Dir = Unit {0}
+AgreesAt m p n (Bytes b) = text_at m p (File (length b) (n ∷ 0 ∷ 0 ∷ 0 ∷ [])) ≡ b
+AgreesAt m p n (LinkText t) = Unit {0}
+
+-- the map agrees with each write
+abbrev pub Tells : List Write → List Known → Type 0
+Tells ws m = (w : Write) → In w ws → AgreesAt m w.path w.number w.what
+
+-- the writes have the numbers from this one on, in their order
+abbrev pub numbered_from : ℕ → List Write → Bool
+numbered_from n [] = true
+numbered_from n (w ∷ ws) = eqb w.number n && numbered_from (suc n) ws
+
+-- the place is that of the last write at the path
+abbrev pub IsPlaceOf : List Write → List ℕ → Option ℕ → Type 0
+IsPlaceOf ws p None = last_of ws p ≡ None
+IsPlaceOf ws p (Some k) = (w : Write) × (slice_get ws k ≡ Some w) × (last_of ws p ≡ Some w)
+
+-- the writes have the numbers from 1 on, and the look-up gives the place of the last write at each path
+pub record IsIndexed (ws : List Write) (place_at : List ℕ → Option ℕ) : Type 0 where
+  pub numbered : IsTrue (numbered_from 1 ws)
+  pub placed : (p : List ℕ) → IsPlaceOf ws p (place_at p)
+
+-- the information is none of a link
+abbrev pub IsNoLink : Info → Type 0
+IsNoLink Missing = Unit {0}
+IsNoLink Directory = Unit {0}
+IsNoLink (File size stamp) = Unit {0}
+IsNoLink (Link text) = ⊥
+
+followed-what : (n : ℕ) (x : What) → IsNoLink (what_info n x Follow)
+followed-what n Gone = tt
+followed-what n Dir = tt
+followed-what n (Bytes b) = tt
+followed-what n (LinkText t) = tt
+
+followed : (o : Option Write) → IsNoLink (info_of o Follow)
+followed None = tt
+followed (Some w) = followed-what w.number w.what
+
+-- a path that is followed is no link
+pub no_link : (ws : List Write) (p t : List ℕ) → info_of (last_of ws p) Follow ≡ Link t → ⊥
+no_link ws p t e = subst IsNoLink e (followed (last_of ws p))

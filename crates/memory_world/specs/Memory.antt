@@ -1,0 +1,39 @@
+-- What is seen of a world in memory, and the map that agrees with its writes.
+use Rattle.std.specs.Prelude.{◌≡◌, ◌==◌, ℕ, Bool, List, [], ◌∷◌, ◌++◌, length, if◌then◌else◌}
+use Rattle.std.specs.List.{list_any}
+use Rattle.file_info.specs.Content.{Known}
+use Rattle.file_info.specs.declared.info.Info.TheVariants.{File}
+use Rattle.outside.specs.declared.order.Order.{Order}
+use Rattle.memory_world.specs.declared.write.What.{What}
+use Rattle.memory_world.specs.declared.write.What.TheVariants.{Gone, Dir, Bytes, LinkText}
+use Rattle.memory_world.specs.declared.write.Write.{Write}
+use Rattle.outside.specs.Telling.{next_count}
+
+-- all writes, the begun orders, how many orders were begun, the numbers of the calls that fail, how many calls there
+-- were, and how many of them failed
+pub record Memory : Type 0 where
+  pub writes : List Write
+  pub begun : List Order
+  pub begins : ℕ
+  pub failing : List ℕ
+  pub calls : ℕ
+  pub faults : ℕ
+
+-- the call of this number fails
+abbrev pub is_failing : List ℕ → ℕ → Bool
+is_failing failing number = list_any (λ n. n == number) failing
+
+-- the count of faults after the call of this number
+abbrev pub faults_after : List ℕ → ℕ → ℕ → ℕ
+faults_after failing number faults = if is_failing failing number then next_count faults else faults
+
+abbrev pub text_of : What → List ℕ
+text_of Gone = []
+text_of Dir = []
+text_of (Bytes text) = text
+text_of (LinkText text) = []
+
+-- every write gives its bytes at its own information
+abbrev pub map_of : List Write → List Known
+map_of [] = []
+map_of (w ∷ ws) = record { path = w.path; info = File (length (text_of w.what)) (w.number ∷ 0 ∷ 0 ∷ 0 ∷ []); text = text_of w.what } ∷ map_of ws

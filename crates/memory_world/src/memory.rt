@@ -1,0 +1,209 @@
+//! A world in memory, in which toy commands run.
+ghost use Rattle.std.specs.Prelude.{◌≡◌, ◌<◌, ◌↔◌, ◌∷◌, ◌++◌, [], ℕ, length, IfOk, IfErr, OnOk, OnErr, IsTrue, true, false, List as Items};
+ghost use Rattle.file_info.specs.Content.{Known, content};
+ghost use Rattle.file_info.specs.declared.info.Form.{Form};
+ghost use Rattle.file_info.specs.Lists.{In};
+ghost use Rattle.outside.specs.declared.order.Order.{Order};
+ghost use Rattle.outside.specs.Telling.{next_count};
+ghost use Rattle.memory_world.specs.Performed.{performed, exit_of, WentOn};
+ghost use Rattle.memory_world.specs.Log.{last_of, info_of, standing, Tells, numbered_from};
+ghost use Rattle.memory_world.specs.Memory.{is_failing, faults_after, map_of};
+ghost use Rattle.memory_world.specs.Edits.{way_to, after_set, after_dir, after_drop, with_writes};
+
+use crate::command::perform;
+use crate::edits;
+use crate::failing::{count_up, next_fails};
+use crate::files::Files;
+use crate::toy::ToyLaw;
+use crate::write::Write;
+use file_info::info::{Form, Info};
+use file_info::list::{Bytes, List};
+use file_info::memory::NoMemory;
+use file_info::path::PathName;
+use outside::disk::{Disk, DiskError, FileBytes};
+use outside::order::{Ended, Order};
+use outside::world::World;
+use std::alloc::Global;
+use std::collections::VecDeque;
+use std::marker::Model;
+
+/// Files in memory in which toy commands run. It keeps a record of each write, and no two writes have one number, so it
+/// tells what stands at each path. The calls of `Disk` and `World` that can answer a fault are numbered from 1, and those
+/// in a list fail. Where that list is empty no call fails. The oldest begun order ends first.
+#[derive(Drop)]
+pub struct MemoryWorld {
+    files: Files,
+    begun: VecDeque<Order>,
+    begins: u64,
+    failing: List<u64>,
+    calls: u64,
+    faults: u64,
+}
+
+impl Model for MemoryWorld {
+    ghost use Rattle.std.specs.Prelude.{◌≡◌, []};
+    ghost use Rattle.memory_world.specs.Memory.{Memory};
+
+    ghost Value = { Memory };
+
+    ghost view = { λ w. record { writes = w.files; begun = w.begun.items; begins = w.begins; failing = w.failing; calls = w.calls; faults = w.faults } };
+
+    ghost invariant = { λ w. w.failing ≡ [] → w.faults ≡ 0 };
+}
+
+// Counts a call, which fails where the list says so.
+fn count_call(calls: &mut u64, failing: &List<u64>, faults: &mut u64) -> Result<(), DiskError>
+    ensures calls { calls.new ≡ next_count calls.old }
+    ensures ok { OnOk result (is_failing failing.now calls.new ≡ false) }
+    ensures err { IfErr result (λ error. (error ≡ DiskError.Fault) × (is_failing failing.now calls.new ≡ true)) }
+    ensures faults { faults.new ≡ faults_after failing.now calls.new faults.old }
+{
+    if next_fails(calls, failing) {
+        count_up(faults);
+        return Err(DiskError::Fault);
+    }
+    Ok(())
+}
+
+impl MemoryWorld {
+    /// A world with no files, in which the calls of these numbers fail. It takes no memory.
+    pub fn new(alloc: Global, failing: List<u64>) -> MemoryWorld
+        ensures { result ≡ record { writes = []; begun = []; begins = 0; failing = failing; calls = 0; faults = 0 } }
+    {
+        MemoryWorld {
+            files: Files::new(alloc),
+            begun: VecDeque::new(alloc),
+            begins: 0,
+            failing,
+            calls: 0,
+            faults: 0,
+        }
+    }
+
+    /// All writes, the oldest first. Their numbers rise from 1, so there is a map that tells them all, and where a map
+    /// tells them, the content that it gives at what stands is what stands.
+    pub fn writes(&self) -> &[Write]
+        ensures value { result.now ≡ self.now.writes }
+        ensures numbered { IsTrue (numbered_from 1 self.now.writes) }
+        ensures told { Tells self.now.writes (map_of self.now.writes) }
+        ensures contents { (m : Items Known) (p : Items ℕ) (f : Form) → Tells self.now.writes m → content m p (info_of (last_of self.now.writes p) f) ≡ standing self.now.writes p f }
+    {
+        self.files.writes()
+    }
+
+    /// Writes a file, and makes directories above it where nothing stands. Through a file or a link, and on a directory,
+    /// it does nothing. It is no call of a world: it is not counted and cannot fail but for want of memory, and then
+    /// some of the directories may be made.
+    pub fn set(&mut self, alloc: Global, path: &PathName, text: Bytes) -> Result<(), NoMemory>
+        ensures ok { OnOk result (self.new ≡ with_writes self.old (after_set self.old.writes path.now text)) }
+        ensures others { self.new ≡ with_writes self.old self.new.writes }
+        ensures went { WentOn (way_to path.now) self.old.writes self.new.writes }
+    {
+        edits::set(alloc, &mut self.files, path, text)
+    }
+
+    /// Makes a directory, and those above it where nothing stands. Through a file or a link, and on one, it does nothing.
+    /// It is not counted, as `set` is not.
+    pub fn dir(&mut self, alloc: Global, path: &PathName) -> Result<(), NoMemory>
+        ensures ok { OnOk result (self.new ≡ with_writes self.old (after_dir self.old.writes path.now)) }
+        ensures others { self.new ≡ with_writes self.old self.new.writes }
+        ensures went { WentOn (way_to path.now) self.old.writes self.new.writes }
+    {
+        edits::dir(alloc, &mut self.files, path)
+    }
+
+    /// Removes a file, a link or an empty directory. Where it cannot it does nothing. It is not counted, as `set` is not.
+    pub fn drop_path(&mut self, alloc: Global, path: &PathName) -> Result<(), NoMemory>
+        ensures ok { OnOk result (self.new ≡ with_writes self.old (after_drop self.old.writes path.now)) }
+        ensures err { OnErr result (self.new ≡ self.old) }
+    {
+        edits::drop_path(alloc, &mut self.files, path)
+    }
+
+    /// How often a call has failed.
+    pub fn faults(&self) -> u64
+        ensures { result ≡ self.now.faults }
+    {
+        self.faults
+    }
+
+    /// Whether some call may fail. Where none may, none has failed.
+    pub fn may_fail(&self) -> bool
+        ensures listed { IsTrue result ↔ (0 < length self.now.failing) }
+        ensures quiet { result ≡ false → self.now.faults ≡ 0 }
+    {
+        !self.failing.is_empty()
+    }
+}
+
+impl Disk<ToyLaw> for MemoryWorld {
+    ghost use Rattle.std.specs.Prelude.{⊤};
+    ghost use Rattle.memory_world.specs.Log.{last_of, info_of, no_link, Tells};
+
+    ghost at = { λ w p f. info_of (last_of w.writes p) f };
+
+    ghost told = { λ w. ⊤ };
+
+    ghost tells = { λ w m. Tells w.writes m };
+
+    ghost faults = { λ w. w.faults };
+
+    ghost orders = { λ w. w.begun };
+
+    ghost begins = { λ w. w.begins };
+
+    ghost leads_to_no_link = { λ w p text t. no_link w.writes p text };
+
+    ghost tells_infos = { λ w m t. tt };
+
+    #[tactic(auto, using(crate::proofs::Worlds::keeps_writes))]
+    fn stat(&mut self, alloc: Global, path: &PathName, form: Form) -> Result<Info, DiskError> {
+        count_call(&mut self.calls, &self.failing, &mut self.faults)?;
+        let info = self.files.info(alloc, path.text(), form)?;
+        Ok(info)
+    }
+
+    #[tactic(auto, using(crate::proofs::Worlds::keeps_writes))]
+    fn read(&mut self, alloc: Global, path: &PathName, most: u64) -> Result<FileBytes, DiskError> {
+        count_call(&mut self.calls, &self.failing, &mut self.faults)?;
+        let bytes = self.files.read(alloc, path.text(), most)?;
+        Ok(bytes)
+    }
+}
+
+impl World<ToyLaw> for MemoryWorld {
+    ghost use Rattle.std.specs.Prelude.{⊤};
+
+    ghost ended = { λ o e. ⊤ };
+
+    #[tactic(auto, using(crate::proofs::Worlds::keeps_writes))]
+    fn begin(&mut self, _alloc: Global, order: Order) -> Result<(), DiskError> {
+        count_call(&mut self.calls, &self.failing, &mut self.faults)?;
+        match self.begun.push_back(order) {
+            Ok(()) => {
+                self.begins = self.begins.saturating_add(1);
+                Ok(())
+            }
+            Err(_) => Err(DiskError::NoMemory),
+        }
+    }
+
+    fn begun(&self) -> usize {
+        self.begun.len()
+    }
+
+    fn end(&mut self, alloc: Global) -> Result<Ended, DiskError> {
+        if let Err(error) = count_call(&mut self.calls, &self.failing, &mut self.faults) {
+            self.begun.clear();
+            return Err(error);
+        }
+        let order = self.begun.pop_front().unwrap();
+        match perform(alloc, &mut self.files, &order) {
+            Ok(exit) => Ok(Ended { order, exit }),
+            Err(_) => {
+                self.begun.clear();
+                Err(DiskError::NoMemory)
+            }
+        }
+    }
+}

@@ -1,5 +1,0 @@
-use Rattle.outside.proofs.Logs.{standing-told}
-use Rattle.outside.proofs.laws.told_contents_stand.Goals as goal
-
-pub returns : goal.returns
-returns c writes m path form t = standing-told writes m t path form
