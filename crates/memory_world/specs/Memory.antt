@@ -1,13 +1,16 @@
 -- What is seen of a world in memory, and the map that agrees with its writes.
-use Rattle.std.specs.Prelude.{◌≡◌, ◌==◌, ℕ, Bool, List, [], ◌∷◌, ◌++◌, length, if◌then◌else◌}
+use Rattle.std.specs.Prelude.{⊤, ◌≡◌, ◌==◌, ℕ, Bool, List, [], ◌∷◌, ◌++◌, length, if◌then◌else◌}
 use Rattle.std.specs.List.{list_any}
 use Rattle.file_info.specs.Content.{Known}
+use Rattle.file_info.specs.declared.info.Info.{Info}
+use Rattle.file_info.specs.declared.info.Form.{Form}
 use Rattle.file_info.specs.declared.info.Info.TheVariants.{File}
 use Rattle.outside.specs.declared.order.Order.{Order}
 use Rattle.memory_world.specs.declared.write.What.{What}
 use Rattle.memory_world.specs.declared.write.What.TheVariants.{Gone, Dir, Bytes, LinkText}
 use Rattle.memory_world.specs.declared.write.Write.{Write}
-use Rattle.outside.specs.Telling.{next_count}
+use Rattle.outside.specs.Telling.{Keeps, next_count}
+use Rattle.memory_world.specs.Log.{Tells, last_of, info_of}
 
 -- all writes, the begun orders, how many orders were begun, the numbers of the calls that fail, how many calls there
 -- were, and how many of them failed
@@ -26,6 +29,30 @@ is_failing failing number = list_any (λ n. n == number) failing
 -- the count of faults after the call of this number
 abbrev pub faults_after : List ℕ → ℕ → ℕ → ℕ
 faults_after failing number faults = if is_failing failing number then next_count faults else faults
+
+-- one call more: it has the next number, and the failures are counted
+abbrev pub after_call : Memory → Memory
+after_call m = record m { calls = next_count m.calls; faults = faults_after m.failing (next_count m.calls) m.faults }
+
+-- the next call fails
+abbrev pub fails_next : Memory → Bool
+fails_next m = is_failing m.failing (next_count m.calls)
+
+-- one order more is begun
+abbrev pub with_order : Memory → Order → Memory
+with_order m order = record m { begun = m.begun ++ order ∷ []; begins = next_count m.begins }
+
+-- these writes were made, and these orders are left
+abbrev pub with_left : Memory → List Write → List Order → Memory
+with_left m writes orders = record m { writes = writes; begun = orders }
+
+-- what tells in the new world told in the old one
+abbrev pub Kept : Memory → Memory → Type 0
+Kept old new = Keeps {D = Memory} (λ w. ⊤) (λ w m. Tells w.writes m) old new
+
+-- what stands at each path, as a disk tells it
+abbrev pub stands : Memory → List ℕ → Form → Info
+stands m path form = info_of (last_of m.writes path) form
 
 abbrev pub text_of : What → List ℕ
 text_of Gone = []

@@ -1,13 +1,18 @@
 //! A world in memory, in which toy commands run.
-ghost use Rattle.std.specs.Prelude.{◌≡◌, ◌<◌, ◌↔◌, ◌∷◌, ◌++◌, [], ℕ, length, IfOk, IfErr, OnOk, OnErr, IsTrue, true, false, List as Items};
-ghost use Rattle.file_info.specs.Content.{Known, content};
+ghost use Rattle.std.specs.Prelude.{◌≡◌, ◌<◌, ◌↔◌, ◌∷◌, ◌++◌, [], ℕ, length, IfOk, IfErr, OnOk, OnErr, IsErrOf, IsTrue, true, false, Err, List as Items};
+ghost use Rattle.file_info.specs.Content.{Known, content, read_contents};
 ghost use Rattle.file_info.specs.declared.info.Form.{Form};
 ghost use Rattle.file_info.specs.Lists.{In};
 ghost use Rattle.outside.specs.declared.order.Order.{Order};
-ghost use Rattle.outside.specs.Telling.{next_count};
+ghost use Rattle.outside.specs.declared.order.Exit.TheVariants.{Code};
+ghost use Rattle.outside.specs.Formed.{IsFormed};
+ghost use Rattle.outside.specs.Outcomes.{SameBut, KeepsDirectories, TakenOut, Unchanged, IsFound, found_contents, contents_at};
+ghost use Rattle.outside.specs.Reading.{FitsInfo, bytes_of};
+ghost use Rattle.outside.specs.Telling.{HasCause, next_count};
 ghost use Rattle.memory_world.specs.Performed.{performed, exit_of, WentOn};
 ghost use Rattle.memory_world.specs.Log.{last_of, info_of, standing, Tells, numbered_from};
-ghost use Rattle.memory_world.specs.Memory.{is_failing, faults_after, map_of};
+ghost use Rattle.memory_world.specs.Memory.{is_failing, faults_after, after_call, fails_next, with_order, with_left, Kept, stands, map_of};
+ghost use Rattle.memory_world.specs.Toy.{ToyDoes};
 ghost use Rattle.memory_world.specs.Edits.{way_to, after_set, after_dir, after_drop, with_writes};
 
 use crate::command::perform;
@@ -28,8 +33,8 @@ use std::collections::VecDeque;
 use std::marker::Model;
 
 /// Files in memory in which toy commands run. It keeps a record of each write, and no two writes have one number, so it
-/// tells what stands at each path. The calls of `Disk` and `World` that can answer a fault are numbered from 1, and those
-/// in a list fail. Where that list is empty no call fails. The oldest begun order ends first.
+/// tells what stands at each path. The calls of `Disk` and `World` that can answer a fault are numbered from 1, and a
+/// fault is answered at exactly those whose number is in a list. The oldest begun order ends first.
 #[derive(Drop)]
 pub struct MemoryWorld {
     files: Files,
@@ -138,9 +143,10 @@ impl MemoryWorld {
 
 impl Disk<ToyLaw> for MemoryWorld {
     ghost use Rattle.std.specs.Prelude.{⊤};
-    ghost use Rattle.memory_world.specs.Log.{last_of, info_of, no_link, Tells};
+    ghost use Rattle.memory_world.specs.Log.{no_link, Tells};
+    ghost use Rattle.memory_world.specs.Memory.{stands};
 
-    ghost at = { λ w p f. info_of (last_of w.writes p) f };
+    ghost at = { stands };
 
     ghost told = { λ w. ⊤ };
 
@@ -156,15 +162,33 @@ impl Disk<ToyLaw> for MemoryWorld {
 
     ghost tells_infos = { λ w m t. tt };
 
+    // Where the list has the next number a fault is answered, and else what stands, or want of memory.
     #[tactic(auto, using(crate::proofs::Worlds::keeps_writes))]
-    fn stat(&mut self, alloc: Global, path: &PathName, form: Form) -> Result<Info, DiskError> {
+    fn stat(&mut self, alloc: Global, path: &PathName, form: Form) -> Result<Info, DiskError>
+        ensures step { self.new ≡ after_call self.old }
+        ensures fails { (result ≡ Err DiskError.Fault) ↔ IsTrue (fails_next self.old) }
+        ensures info { IfOk result (λ i. i ≡ stands self.old path.now form) }
+        ensures keeps { Kept self.old self.new }
+        ensures here { IsErrOf result DiskError.NotDirectory → ⊥ }
+        ensures cause { HasCause self.old.faults self.new.faults result }
+    {
         count_call(&mut self.calls, &self.failing, &mut self.faults)?;
         let info = self.files.info(alloc, path.text(), form)?;
         Ok(info)
     }
 
+    // Where the list has the next number a fault is answered, and else the bytes that stand, or want of memory.
     #[tactic(auto, using(crate::proofs::Worlds::keeps_writes))]
-    fn read(&mut self, alloc: Global, path: &PathName, most: u64) -> Result<FileBytes, DiskError> {
+    fn read(&mut self, alloc: Global, path: &PathName, most: u64) -> Result<FileBytes, DiskError>
+        ensures step { self.new ≡ after_call self.old }
+        ensures fails { (result ≡ Err DiskError.Fault) ↔ IsTrue (fails_next self.old) }
+        ensures text { IfOk result (λ b. b ≡ bytes_of most (standing self.old.writes path.now Form.Follow)) }
+        ensures info { IfOk result (FitsInfo (stands self.old path.now Form.Follow)) }
+        ensures bytes { (m : Items Known) → Tells self.new.writes m → IfOk result (λ b. b ≡ bytes_of most (content m path.now (stands self.old path.now Form.Follow))) }
+        ensures keeps { Kept self.old self.new }
+        ensures here { IsErrOf result DiskError.NotDirectory → ⊥ }
+        ensures cause { HasCause self.old.faults self.new.faults result }
+    {
         count_call(&mut self.calls, &self.failing, &mut self.faults)?;
         let bytes = self.files.read(alloc, path.text(), most)?;
         Ok(bytes)
@@ -176,8 +200,18 @@ impl World<ToyLaw> for MemoryWorld {
 
     ghost ended = { λ o e. ⊤ };
 
+    // Where the list has the next number a fault is answered, and else the order is begun, if there is memory.
     #[tactic(auto, using(crate::proofs::Worlds::keeps_writes))]
-    fn begin(&mut self, _alloc: Global, order: Order) -> Result<(), DiskError> {
+    fn begin(&mut self, _alloc: Global, order: Order) -> Result<(), DiskError>
+        ensures taken { OnOk result (self.new ≡ with_order (after_call self.old) order) }
+        ensures left { OnErr result (self.new ≡ after_call self.old) }
+        ensures fails { (result ≡ Err DiskError.Fault) ↔ IsTrue (fails_next self.old) }
+        ensures keeps { Kept self.old self.new }
+        ensures same { SameBut self.new.begun (stands self.old) (stands self.new) }
+        ensures directories { KeepsDirectories (stands self.old) (stands self.new) }
+        ensures here { IsErrOf result DiskError.NotDirectory → ⊥ }
+        ensures cause { HasCause self.old.faults self.new.faults result }
+    {
         count_call(&mut self.calls, &self.failing, &mut self.faults)?;
         match self.begun.push_back(order) {
             Ok(()) => {
@@ -192,7 +226,28 @@ impl World<ToyLaw> for MemoryWorld {
         self.begun.len()
     }
 
-    fn end(&mut self, alloc: Global) -> Result<Ended, DiskError> {
+    // Where the list has the next number a fault is answered and nothing is written, and else the oldest order is
+    // performed, if there is memory.
+    fn end(&mut self, alloc: Global) -> Result<Ended, DiskError>
+        requires { 0 < length self.old.begun }
+        ensures oldest { IfOk result (λ e. self.old.begun ≡ e.order ∷ self.new.begun) }
+        ensures step { IfOk result (λ e. self.new ≡ with_left (after_call self.old) (performed self.old.writes e.order) self.new.begun) }
+        ensures exit { IfOk result (λ e. e.exit ≡ exit_of self.old.writes e.order) }
+        ensures left { OnErr result (self.new ≡ with_left (after_call self.old) self.new.writes []) }
+        ensures fails { (result ≡ Err DiskError.Fault) ↔ IsTrue (fails_next self.old) }
+        ensures spared { IsErrOf result DiskError.Fault → self.new.writes ≡ self.old.writes }
+        ensures ok { IfOk result (λ e. TakenOut e.order self.old.begun self.new.begun) }
+        ensures keeps { Kept self.old self.new }
+        ensures same { SameBut self.old.begun (stands self.old) (stands self.new) }
+        ensures directories { KeepsDirectories (stands self.old) (stands self.new) }
+
+        // A command that succeeded on inputs that still stand did what the law says.
+        ensures does { (m : Items Known) → Tells self.new.writes m → IfOk result (λ e. e.exit ≡ Code 0 → IsFormed e.order → Unchanged (stands self.new) e.order
+            → (w : Items (Items ℕ)) → IsFound m (stands self.new) e.order.deps w
+            → ToyDoes e.order.signature (read_contents m e.order.reads) (found_contents m (stands self.new) e.order w) (contents_at m (stands self.new) e.order)) }
+        ensures here { IsErrOf result DiskError.NotDirectory → ⊥ }
+        ensures cause { HasCause self.old.faults self.new.faults result }
+    {
         if let Err(error) = count_call(&mut self.calls, &self.failing, &mut self.faults) {
             self.begun.clear();
             return Err(error);

@@ -1,6 +1,7 @@
 //! Sinks in memory.
-ghost use Rattle.std.specs.Prelude.{◌≡◌, ◌≤◌, [], length, IfOk};
-ghost use Rattle.memory_world.specs.Sinks.{with_piece};
+ghost use Rattle.std.specs.Prelude.{◌≡◌, ◌≤◌, ◌↔◌, [], length, min, Ok, IsTrue, IsErr, IfOk, OnErr};
+ghost use Rattle.outside.specs.Telling.{Rose};
+ghost use Rattle.memory_world.specs.Sinks.{with_piece, fails_at, after_put, after_fault};
 
 use crate::failing::{count_up, next_fails};
 use file_info::list::List;
@@ -74,7 +75,14 @@ impl Sink for VecSink {
 
     ghost faults = { λ s. s.faults };
 
-    fn put(&mut self, piece: &[u8]) -> Result<usize, SinkFault> {
+    // As much of the piece is written as there is room for.
+    fn put(&mut self, piece: &[u8]) -> Result<usize, SinkFault>
+        ensures step { IfOk result (λ n. (n ≡ min (length piece.now) self.old.spare) × (self.new ≡ after_put self.old piece.now n)) }
+        ensures failed { OnErr result (self.new ≡ after_fault self.old) }
+        ensures fails { IsErr result ↔ IsTrue (fails_at self.old piece.now) }
+        ensures cause { OnErr result (Rose self.old.faults self.new.faults) }
+        ensures later { self.old.faults ≤ self.new.faults }
+    {
         let count = piece.len().min(self.written.spare());
         if next_fails(&mut self.calls, &self.failing) || (count == 0 && !piece.is_empty()) {
             count_up(&mut self.faults);
@@ -103,7 +111,9 @@ impl Sink for DropSink {
 
     ghost faults = { λ _. 0 };
 
-    fn put(&mut self, piece: &[u8]) -> Result<usize, SinkFault> {
+    fn put(&mut self, piece: &[u8]) -> Result<usize, SinkFault>
+        ensures { result ≡ Ok (length piece.now) }
+    {
         Ok(piece.len())
     }
 }

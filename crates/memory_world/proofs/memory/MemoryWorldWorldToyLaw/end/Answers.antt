@@ -25,14 +25,14 @@ returns-in-Ok-clause-keeps c = went-keeps c.unwrap-order.result.outputs _ _
     (subst (λ (ws : List Write). WentOn c.unwrap-order.result.outputs ws c.perform.new.files) (ap (λ (w : Memory). w.writes) c.self.view_is) c.perform.ensures.went)
 
 pub returns-in-Ok-clause-same : goal.returns-in-Ok-clause-same
-returns-in-Ok-clause-same c t =
+returns-in-Ok-clause-same c =
     let taken : c.args.self.now.begun ≡ c.unwrap-order.result ∷ c.pop_front.new.self.items =
     sym (ap (λ (w : Memory). w.begun) c.self.view_is) ∙ c.pop_front.ensures.items ∙ ap (λ (o : Option Order). option_to_list o ++ c.pop_front.new.self.items) c.unwrap-order.ensures in
     went-same c.unwrap-order.result c.args.self.now.begun c.args.self.now.writes c.perform.new.files (subst (In c.unwrap-order.result) (sym taken) (inl refl))
     (subst (λ (ws : List Write). WentOn c.unwrap-order.result.outputs ws c.perform.new.files) (ap (λ (w : Memory). w.writes) c.self.view_is) c.perform.ensures.went)
 
 pub returns-in-Ok-clause-directories : goal.returns-in-Ok-clause-directories
-returns-in-Ok-clause-directories c t = went-directories c.unwrap-order.result.outputs c.args.self.now.writes c.perform.new.files
+returns-in-Ok-clause-directories c = went-directories c.unwrap-order.result.outputs c.args.self.now.writes c.perform.new.files
     (subst (λ (ws : List Write). WentOn c.unwrap-order.result.outputs ws c.perform.new.files) (ap (λ (w : Memory). w.writes) c.self.view_is) c.perform.ensures.went)
 
 pub returns-in-Ok-clause-does : goal.returns-in-Ok-clause-does
@@ -44,12 +44,12 @@ returns-in-Err-perform-clause-keeps c = went-keeps c.unwrap-order.result.outputs
     (subst (λ (ws : List Write). WentOn c.unwrap-order.result.outputs ws c.perform.new.files) (ap (λ (w : Memory). w.writes) c.self.view_is) c.perform.ensures.went)
 
 pub returns-in-Err-perform-clause-same : goal.returns-in-Err-perform-clause-same
-returns-in-Err-perform-clause-same c t =
+returns-in-Err-perform-clause-same c =
     let taken : c.args.self.now.begun ≡ c.unwrap-order.result ∷ c.pop_front.new.self.items =
     sym (ap (λ (w : Memory). w.begun) c.self.view_is) ∙ c.pop_front.ensures.items ∙ ap (λ (o : Option Order). option_to_list o ++ c.pop_front.new.self.items) c.unwrap-order.ensures in
     went-same c.unwrap-order.result c.args.self.now.begun c.args.self.now.writes c.perform.new.files (subst (In c.unwrap-order.result) (sym taken) (inl refl))
     (subst (λ (ws : List Write). WentOn c.unwrap-order.result.outputs ws c.perform.new.files) (ap (λ (w : Memory). w.writes) c.self.view_is) c.perform.ensures.went)
 
 pub returns-in-Err-perform-clause-directories : goal.returns-in-Err-perform-clause-directories
-returns-in-Err-perform-clause-directories c t = went-directories c.unwrap-order.result.outputs c.args.self.now.writes c.perform.new.files
+returns-in-Err-perform-clause-directories c = went-directories c.unwrap-order.result.outputs c.args.self.now.writes c.perform.new.files
     (subst (λ (ws : List Write). WentOn c.unwrap-order.result.outputs ws c.perform.new.files) (ap (λ (w : Memory). w.writes) c.self.view_is) c.perform.ensures.went)
