@@ -1,17 +1,15 @@
 -- The log of writes.
-use Rattle.std.proofs.Common.{◌≡◌, ◌⊎◌, ℕ, zero, suc, Bool, true, false, cond, List, [], ◌∷◌, ◌++◌, map, length, refl, inl, inr, ap, sym, ◌∙◌, subst, eq-eqb, eqb-true, eqb}
+use Rattle.std.proofs.Common.{◌≡◌, ℕ, Bool, true, false, cond, List, [], ◌∷◌, ◌++◌, refl, inl, inr, ap, sym, ◌∙◌, subst, eq-eqb, eqb-true, eqb}
 use Rattle.std.specs.Prelude.{◌&&◌, Option, Some, None}
-use Rattle.file_info.specs.Content.{Content, Known, content, text_at, same_list, Absent, Folder, LinkTo, Text}
+use Rattle.file_info.specs.Content.{Known, content, same_list, Text}
 use Rattle.file_info.specs.Lists.{In}
-use Rattle.file_info.specs.declared.info.Info.{Info}
-use Rattle.file_info.specs.declared.info.Info.TheVariants.{Missing, Directory, File, Link}
 use Rattle.file_info.specs.declared.info.Form.{Form}
 use Rattle.file_info.specs.declared.info.Form.TheVariants.{Follow, Link as AsLink}
 use Rattle.memory_world.specs.declared.write.What.{What}
 use Rattle.memory_world.specs.declared.write.What.TheVariants.{Gone, Dir, Bytes, LinkText}
 use Rattle.memory_world.specs.declared.write.Write.{Write}
 use Rattle.memory_world.specs.Log.{later, last_of, info_of, what_info, content_of, what_content, standing, AgreesAt, Tells}
-use Rattle.memory_world.proofs.Ins.{In-left, In-right, In-either, In-one}
+use Rattle.memory_world.proofs.Ins.{In-left}
 
 pub same_list-refl : (xs : List ℕ) → same_list xs xs ≡ true
 same_list-refl [] = refl

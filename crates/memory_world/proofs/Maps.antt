@@ -1,9 +1,8 @@
 -- The map of a numbered log agrees with each of its writes.
-use Rattle.std.proofs.Common.{◌≡◌, ◌⊎◌, ◌≤◌, ◌<◌, ◌+◌, ℕ, zero, suc, Bool, true, false, cond, List, [], ◌∷◌, ◌++◌, length, refl, inl, inr, ap, sym, ◌∙◌, subst, eqb, eq-eqb, eqb-true, arith}
+use Rattle.std.proofs.Common.{◌≡◌, ◌≤◌, ◌<◌, ℕ, suc, Bool, true, false, cond, List, [], ◌∷◌, length, refl, inl, inr, ap, sym, ◌∙◌, subst, eqb, eq-eqb, eqb-true, arith}
 use Rattle.std.specs.Prelude.{◌&&◌}
 use Rattle.file_info.specs.Content.{Known, text_at, same_list, same_info}
 use Rattle.file_info.specs.Lists.{In}
-use Rattle.file_info.specs.declared.info.Info.{Info}
 use Rattle.file_info.specs.declared.info.Info.TheVariants.{File}
 use Rattle.memory_world.specs.declared.write.What.{What}
 use Rattle.memory_world.specs.declared.write.What.TheVariants.{Gone, Dir, Bytes, LinkText}

@@ -1,9 +1,8 @@
 -- A world whose log went on.
-use Rattle.std.proofs.Common.{◌≡◌, ◌⊎◌, ℕ, Bool, true, false, cond, List, [], ◌∷◌, ◌++◌, refl, inl, inr, ap, sym, ◌∙◌, subst}
+use Rattle.std.proofs.Common.{◌≡◌, ℕ, true, false, List, refl, inl, ap, sym, ◌∙◌, subst}
 use Rattle.std.specs.Prelude.{⊤, Option, Some, None}
 use Rattle.file_info.specs.Content.{Known, content}
 use Rattle.file_info.specs.Lists.{In}
-use Rattle.file_info.specs.declared.info.Info.{Info}
 use Rattle.file_info.specs.declared.info.Info.TheVariants as infos
 use Rattle.file_info.specs.declared.info.Form.{Form}
 use Rattle.file_info.specs.declared.info.Form.TheVariants.{Follow, Link}
@@ -14,7 +13,7 @@ use Rattle.memory_world.specs.declared.write.What.TheVariants.{Gone, Dir, Bytes,
 use Rattle.memory_world.specs.declared.write.Write.{Write}
 use Rattle.outside.specs.Telling.{Keeps}
 use Rattle.outside.specs.Reading.{bytes_of}
-use Rattle.outside.specs.Outcomes.{SameBut, KeepsDirectories, IsWritten}
+use Rattle.outside.specs.Outcomes.{SameBut, KeepsDirectories}
 use Rattle.memory_world.specs.Log.{later, last_of, info_of, what_info, standing, Tells}
 use Rattle.memory_world.specs.Performed.{is_directory, WentOn}
 use Rattle.memory_world.specs.Memory.{Memory}

@@ -1,5 +1,5 @@
 -- Files as the list of all writes: a path holds what the last one left there.
-use Rattle.std.specs.Prelude.{◌≡◌, ◌+◌, ◌<◌, ◌&&◌, ℕ, suc, Bool, true, false, cond, eqb, IsTrue, List, [], ◌∷◌, ◌++◌, length, Option, Some, None, slice_get}
+use Rattle.std.specs.Prelude.{◌≡◌, ◌+◌, ◌&&◌, ℕ, suc, Bool, true, cond, eqb, IsTrue, List, [], ◌∷◌, ◌++◌, length, Option, Some, None, slice_get}
 use Rattle.std.proofs.Common.{subst}
 use Rattle.file_info.specs.Content.{Content, Known, text_at, same_list, Absent, Folder, LinkTo, Text}
 use Rattle.file_info.specs.Lists.{In}

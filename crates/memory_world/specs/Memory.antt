@@ -1,5 +1,5 @@
 -- What is seen of a world in memory, and the map that agrees with its writes.
-use Rattle.std.specs.Prelude.{⊤, ◌≡◌, ◌==◌, ℕ, Bool, List, [], ◌∷◌, ◌++◌, length, if◌then◌else◌}
+use Rattle.std.specs.Prelude.{⊤, ◌==◌, ℕ, Bool, List, [], ◌∷◌, ◌++◌, length, if◌then◌else◌}
 use Rattle.std.specs.List.{list_any}
 use Rattle.file_info.specs.Content.{Known}
 use Rattle.file_info.specs.declared.info.Info.{Info}
