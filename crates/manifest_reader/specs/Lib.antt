@@ -8,4 +8,5 @@ pub mod Places
 pub mod Rules
 pub mod Makers
 pub mod Manifest
+pub mod Served
 pub mod Load

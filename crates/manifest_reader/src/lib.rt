@@ -4,6 +4,7 @@
 mod attributes;
 pub mod command;
 pub mod error;
+pub mod laws;
 pub mod load;
 mod makers;
 pub mod manifest;
