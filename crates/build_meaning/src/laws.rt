@@ -2,7 +2,10 @@
 ghost use Rattle.std.specs.Prelude.{◌≡◌, ℕ, List as Items};
 ghost use Rattle.file_info.specs.Content.{Content, Known};
 ghost use Rattle.manifest_reader.specs.declared.command.Command.{Command};
+ghost use Rattle.manifest_reader.specs.Manifest.{ManifestLists};
+ghost use Rattle.manifest_reader.specs.Served.{IsManifest};
 ghost use Rattle.build_meaning.specs.Fresh.{Fresh, Sights};
+ghost use Rattle.build_meaning.specs.Orderly.{AreOrderly};
 ghost use Rattle.build_meaning.specs.Unique.{HasOneMaker, SawOnce};
 
 use outside::law::Law;
@@ -11,4 +14,9 @@ use outside::law::Law;
 pub fn single_valued<L: Law>()
     ensures { (m : Items Known) (commands : Items Command) (seen : Sights) → HasOneMaker commands → SawOnce seen
         → (p : Items ℕ) (x y : Content) → Fresh L.does m commands seen p x → Fresh L.does m commands seen p y → x ≡ y }
+{}
+
+/// The rules of a manifest over its commands, as facts.
+pub fn manifests_are_orderly()
+    ensures { (m : ManifestLists) → IsManifest m → AreOrderly m.commands }
 {}

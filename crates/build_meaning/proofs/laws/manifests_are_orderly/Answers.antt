@@ -1,0 +1,5 @@
+use Rattle.build_meaning.proofs.Orderly.{orderly}
+use Rattle.build_meaning.proofs.laws.manifests_are_orderly.Goals as goal
+
+pub returns : goal.returns
+returns c m h = orderly m h
