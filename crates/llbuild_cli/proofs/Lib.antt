@@ -1,5 +1,16 @@
-pub mod Short
 pub mod Sinks
 pub mod WordPath
 pub mod Written
 pub mod Spelling
+pub mod Going
+pub mod Inputs
+pub mod Steps
+pub mod Runs
+pub mod Needs
+pub mod Starting
+pub mod Orders
+pub mod Ones
+pub mod Stopping
+pub mod Noting
+pub mod Ending
+pub mod Memories

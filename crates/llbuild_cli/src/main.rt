@@ -1,14 +1,21 @@
 // The build system's program: reads a manifest, and starts the commands that a target needs.
 #![tactic(auto)]
 
+mod announce;
 mod build;
+mod execute;
 mod files;
+mod in_memory;
+mod look;
+mod open;
+mod programs;
 mod put_all;
 mod reach;
 mod real_world;
 mod report;
 mod run;
 mod seen;
+mod settle;
 mod signature;
 mod spawn;
 mod std_sink;
@@ -40,3 +47,6 @@ fn main(rt: HostRuntime) -> io::Result<ExitCode> {
     );
     Ok(ExitCode::from(finish.status))
 }
+
+#[cfg(test)]
+mod tests;

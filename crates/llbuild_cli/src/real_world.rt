@@ -3,6 +3,7 @@ ghost use Rattle.std.specs.Prelude.{◌≡◌, ℕ, ◌+◌, ◌<◌, ◌≤◌,
 ghost use Rattle.outside.specs.Telling.{HasCause};
 
 use crate::files::{bytes_of, disk_error, info_of};
+use crate::programs::Programs;
 use crate::spawn::perform;
 use file_info::info::{Form, Info};
 use file_info::path::PathName;
@@ -14,7 +15,7 @@ use std::alloc::Global;
 use std::collections::VecDeque;
 use std::io;
 use std::process::Processes;
-use std::rt::Files;
+use std::rt::{Env, Files};
 
 /// The files of this machine, seen from the folder of this process.
 #[derive(Drop)]
@@ -25,11 +26,12 @@ pub struct RealDisk<R: Files + AllocGlobal + Drop> {
 
 /// The files, and the programs that run on them. An order that is begun waits; `end` runs the oldest.
 #[derive(Drop)]
-pub struct RealWorld<R: Files + AllocGlobal + Processes + Drop> {
+pub struct RealWorld<R: Files + Env + AllocGlobal + Processes + Drop> {
     rt: R,
     faults: u64,
     waiting: VecDeque<Order>,
     begins: u64,
+    programs: Programs,
 }
 
 // The answer of a call, where a failure raises the count.
@@ -54,7 +56,7 @@ impl<R: Files + AllocGlobal + Drop> RealDisk<R> {
     }
 }
 
-impl<R: Files + AllocGlobal + Processes + Drop> RealWorld<R> {
+impl<R: Files + Env + AllocGlobal + Processes + Drop> RealWorld<R> {
     /// The world with nothing begun.
     pub fn new(rt: R) -> RealWorld<R>
         ensures { result.waiting.items ≡ [] }
@@ -65,6 +67,7 @@ impl<R: Files + AllocGlobal + Processes + Drop> RealWorld<R> {
             faults: 0,
             waiting: VecDeque::new(alloc),
             begins: 0,
+            programs: Programs::new(alloc),
         }
     }
 }
@@ -100,7 +103,7 @@ impl<L: Law, R: Files + AllocGlobal + Drop> Disk<L> for RealDisk<R> {
     }
 }
 
-impl<L: Law, R: Files + AllocGlobal + Processes + Drop> Disk<L> for RealWorld<R> {
+impl<L: Law, R: Files + Env + AllocGlobal + Processes + Drop> Disk<L> for RealWorld<R> {
     ghost use Rattle.file_info.specs.declared.info.Info.TheVariants.{Missing};
 
     ghost at = { λ w p f. Missing };
@@ -130,7 +133,7 @@ impl<L: Law, R: Files + AllocGlobal + Processes + Drop> Disk<L> for RealWorld<R>
     }
 }
 
-impl<L: Law, R: Files + AllocGlobal + Processes + Drop> World<L> for RealWorld<R> {
+impl<L: Law, R: Files + Env + AllocGlobal + Processes + Drop> World<L> for RealWorld<R> {
     ghost use Rattle.std.specs.Prelude.{⊤};
 
     ghost ended = { λ order exit. ⊤ };
@@ -154,7 +157,7 @@ impl<L: Law, R: Files + AllocGlobal + Processes + Drop> World<L> for RealWorld<R
         let Some(order) = self.waiting.pop_front() else {
             unreachable!()
         };
-        let outcome = perform(&self.rt, alloc, &order.act);
+        let outcome = perform(&self.rt, alloc, &mut self.programs, &order);
         match answer(&mut self.faults, outcome) {
             Ok(exit) => Ok(Ended { order, exit }),
             Err(error) => {

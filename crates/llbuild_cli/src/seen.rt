@@ -1,4 +1,8 @@
 //! What a build has seen so far.
+ghost use Rattle.std.specs.Prelude.{◌≡◌, ◌++◌, ◌∷◌, [], ℕ, List as Items, None, OnOk};
+ghost use Rattle.std.specs.Option.{option_copied};
+ghost use Rattle.llbuild_cli.specs.Seen.{known, Noted, SameLists};
+
 use crate::report::{Heard, Start, StatSeen};
 use file_info::copied::Copied;
 use file_info::info::Info;
@@ -19,7 +23,12 @@ pub struct Seen {
 
 impl Seen {
     /// Nothing is seen.
-    pub fn new(alloc: Global) -> Seen {
+    pub fn new(alloc: Global) -> Seen
+        ensures starts { result.starts ≡ [] }
+        ensures stats { result.stats ≡ [] }
+        ensures heard { result.heard ≡ [] }
+        ensures infos { (path : Items ℕ) → known result path ≡ None }
+    {
         Seen {
             starts: List::new(alloc),
             stats: List::new(alloc),
@@ -29,12 +38,17 @@ impl Seen {
     }
 
     /// What was seen at a path.
-    pub fn info(&self, path: &PathName) -> Option<&Info> {
+    pub fn info(&self, path: &PathName) -> Option<&Info>
+        ensures { option_copied result ≡ known self.now path.now }
+    {
         self.infos.get(path.text())
     }
 
-    /// Notes what was seen at a path.
-    pub fn note(&mut self, alloc: Global, path: &PathName, info: Info) -> Result<(), NoMemory> {
+    /// Notes what was seen at a path. Whatever it answers, the lists stay.
+    pub fn note(&mut self, alloc: Global, path: &PathName, info: Info) -> Result<(), NoMemory>
+        ensures ok { OnOk result (Noted path.now info self.old self.new) }
+        ensures lists { SameLists self.old self.new }
+    {
         let key = String::from_str(alloc, path.text())?;
         self.infos.insert(key, info)?;
         Ok(())
@@ -46,7 +60,12 @@ impl Seen {
         alloc: Global,
         path: &PathName,
         info: &Info,
-    ) -> Result<(), NoMemory> {
+    ) -> Result<(), NoMemory>
+        ensures ok { OnOk result (Noted path.now info.now self.old self.new) }
+        ensures stats { OnOk result (self.new.stats ≡ self.old.stats ++ record { path = path.now; info = info.now } ∷ []) }
+        ensures starts { self.new.starts ≡ self.old.starts }
+        ensures heard { self.new.heard ≡ self.old.heard }
+    {
         self.stats.push(StatSeen {
             path: path.copy(alloc)?,
             info: info.copy(alloc)?,

@@ -21,6 +21,9 @@ use std::alloc::{AllocError, Global};
 // The byte that begins the text of a shell command.
 const SHELL: u8 = 1;
 
+// The length that no signature has: its counts have four bytes.
+const SIGNATURE_END: usize = 4_294_967_296;
+
 // The first bytes of the keys of nodes, trees and structures.
 const NODE: u8 = 3;
 
@@ -258,7 +261,8 @@ fn paths(alloc: Global, nodes: &List<NodeName>) -> Result<List<PathName>, NoMemo
     Ok(paths)
 }
 
-/// The order of a shell command on what was read of its inputs.
+/// The order of a shell command on what was read of its inputs. A signature whose counts would not fit four bytes is
+/// answered as want of memory: a manifest's text is too short for one.
 pub fn order_of(
     alloc: Global,
     command: &Command,
@@ -274,8 +278,12 @@ pub fn order_of(
     ensures deps { IfOk result (λ order. order.deps ≡ command.now.deps) }
     ensures links { IfOk result (λ order. order.links ≡ []) }
     ensures formed { command.now.tool ≡ tools.Shell → AreReadsOf (meaning_of command.now).inputs reads → IsDistinct (paths_of command.now.outputs)
-        → length (signature_of (meaning_of command.now)) < 2 ^ 32 → IfOk result (IsOrderOf (meaning_of command.now)) }
+        → IfOk result (IsOrderOf (meaning_of command.now)) }
 {
+    let signature = signature(alloc, command)?;
+    if signature.len() >= SIGNATURE_END {
+        return Err(NoMemory);
+    }
     let act = Act::Spawn {
         words: words(alloc, &command.args)?,
         env: variables(alloc, &command.env)?,
@@ -285,7 +293,7 @@ pub fn order_of(
     Ok(Order {
         ticket,
         command: command.name.copy(alloc)?,
-        signature: signature(alloc, command)?,
+        signature,
         act,
         reads,
         outputs: paths(alloc, &command.outputs)?,

@@ -1,9 +1,12 @@
 //! Real programs.
+use crate::programs::Programs;
 use file_info::list::{Bytes, List};
-use outside::order::{Act, EnvText, Exit};
+use outside::order::{Act, EnvText, Exit, Order};
 use std::alloc::Global;
 use std::io::ErrorKind;
-use std::process::{Command, ExitStatus, Processes, Stdio};
+use std::os::unix::process::CommandExt;
+use std::process::{Child, Command, ExitStatus, Processes, Stdio};
+use std::rt::{Env, Files};
 use std::{io, str};
 
 // A text that a program is handed.
@@ -38,36 +41,91 @@ fn add_env(command: &mut Command, env: &List<EnvText>) -> io::Result<()> {
     Ok(())
 }
 
-// Runs a program to its end. It has no standard input, and shares standard output and error with this process.
-fn run<P: Processes>(
+// Starts a program, from this file. It has no standard input, and shares standard output and error with this process.
+fn start<P: Processes>(
     processes: &P,
     alloc: Global,
-    words: &List<Bytes>,
+    file: &str,
+    words: &[Bytes],
     env: &List<EnvText>,
     inherit_env: bool,
-) -> io::Result<Exit> {
-    let Some((program, others)) = words.as_slice().split_first() else {
+) -> io::Result<Child<P::Started>> {
+    let Some((program, others)) = words.split_first() else {
         return Err(io::Error::from(ErrorKind::InvalidInput));
     };
-    let mut command = Command::new(alloc, text_of(program)?)?;
+    let mut command = Command::new(alloc, file)?;
+    command.arg0(text_of(program)?)?;
     add_words(&mut command, others)?;
     if !inherit_env {
         command.env_clear();
     }
     add_env(&mut command, env)?;
     command.stdin(Stdio::null());
-    Ok(exit_of(command.status(processes)?))
+    command.spawn(processes)
 }
 
-/// Does what an act says, in the folder of this process. A program that cannot be started is an error.
-pub fn perform<P: Processes>(processes: &P, alloc: Global, act: &Act) -> io::Result<Exit> {
-    match act {
+// Starts a program from the file where it was found, or else by its name.
+fn start_found<P: Processes>(
+    processes: &P,
+    alloc: Global,
+    programs: &Programs,
+    words: &[Bytes],
+    env: &List<EnvText>,
+    inherit_env: bool,
+) -> io::Result<Child<P::Started>> {
+    let Some(program) = words.first() else {
+        return Err(io::Error::from(ErrorKind::InvalidInput));
+    };
+    let name = text_of(program)?;
+    if let Some(file) = programs.file(name) {
+        if let Ok(child) = start(processes, alloc, file, words, env, inherit_env) {
+            return Ok(child);
+        }
+    }
+    start(processes, alloc, name, words, env, inherit_env)
+}
+
+// Runs a program to its end. Where variables are set for it, or those of this process are not handed on, `PATH` may differ,
+// and it is looked for anew.
+fn run<P: Processes + Files + Env + AllocGlobal>(
+    rt: &P,
+    alloc: Global,
+    programs: &mut Programs,
+    words: &[Bytes],
+    env: &List<EnvText>,
+    inherit_env: bool,
+) -> io::Result<Exit> {
+    let Some(program) = words.first() else {
+        return Err(io::Error::from(ErrorKind::InvalidInput));
+    };
+    let name = text_of(program)?;
+    let mut child = if inherit_env && env.is_empty() {
+        programs.look_for(rt, name)?;
+        start_found(rt, alloc, programs, words, env, inherit_env)?
+    } else {
+        start(rt, alloc, name, words, env, inherit_env)?
+    };
+    Ok(exit_of(child.wait()?))
+}
+
+/// Does what an order says, in the folder of this process. A program that cannot be started is an error.
+pub fn perform<P: Processes + Files + Env + AllocGlobal>(
+    rt: &P,
+    alloc: Global,
+    programs: &mut Programs,
+    order: &Order,
+) -> io::Result<Exit> {
+    match &order.act {
         Act::Spawn {
             words,
             env,
             inherit_env,
             clear: _,
-        } => run(processes, alloc, words, env, *inherit_env),
+        } => {
+            let outcome = run(rt, alloc, programs, words.as_slice(), env, *inherit_env);
+            programs.forget(&order.outputs);
+            outcome
+        }
         Act::MakeDir | Act::MakeLink { text: _ } => Err(io::Error::from(ErrorKind::Unsupported)),
     }
 }

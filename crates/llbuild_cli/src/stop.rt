@@ -29,6 +29,11 @@ impl From<NoMemory> for Stop {
 }
 
 impl From<DiskError> for Stop {
+    ghost use Rattle.std.specs.Prelude.{◌≡◌};
+    ghost use Rattle.llbuild_cli.specs.Stops.{stop_of};
+
+    ghost from_gives = { λ error stop. stop ≡ stop_of error };
+
     // The calls of a world that a build makes never answer `NotDirectory`.
     fn from(error: DiskError) -> Stop {
         match error {
@@ -50,6 +55,11 @@ impl From<SinkFault> for Stop {
 }
 
 impl From<Stop> for End<NoFault> {
+    ghost use Rattle.std.specs.Prelude.{◌≡◌};
+    ghost use Rattle.llbuild_cli.specs.Stops.{end_of};
+
+    ghost from_gives = { λ stop end. end ≡ end_of stop };
+
     fn from(stop: Stop) -> End<NoFault> {
         match stop {
             Stop::CommandFailed { command, exit } => End::CommandFailed { command, exit },

@@ -1,5 +1,6 @@
 //! The words of the command line.
-ghost use Rattle.std.specs.Prelude.{◌≡◌, ◌⊎◌, Some, None, map, string_bytes, IfOk, IfErr};
+ghost use Rattle.std.specs.Prelude.{◌≡◌, ◌⊎◌, Some, None, map, string_bytes, IfOk, IfErr, IsTrue};
+ghost use Rattle.std.specs.Str.{is_utf8};
 ghost use Rattle.llbuild_cli.specs.Words.{is_form, job_of, path_of};
 
 use file_info::list::{Bytes, List};
@@ -53,6 +54,7 @@ fn path_of(alloc: Global, word: &str) -> Result<PathName, UsageFault>
 /// path.
 pub fn read_words(alloc: Global, words: &[String]) -> Result<Job, UsageFault>
     ensures ok { IfOk result (λ job. job_of (map string_bytes words.now) ≡ Some job) }
+    ensures text { IfOk result (λ job. IsTrue (is_utf8 job.target)) }
     ensures refused { IfErr result (λ fault. (fault ≡ UsageFault.NoMemory) ⊎ (job_of (map string_bytes words.now) ≡ None)) }
 {
     let [system, build, serial, no_db, option, file, target] = words else {
@@ -68,7 +70,7 @@ pub fn read_words(alloc: Global, words: &[String]) -> Result<Job, UsageFault>
         return Err(UsageFault::Words);
     }
     let file = path_of(alloc, file.as_str())?;
-    match Vec::from_slice(alloc, target.as_bytes()) {
+    match Vec::from_slice(alloc, target.as_str().as_bytes()) {
         Ok(target) => Ok(Job {
             file,
             target: List::from_vec(target),

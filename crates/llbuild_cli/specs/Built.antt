@@ -1,0 +1,138 @@
+-- What one command adds to a build, and what a build leaves.
+use Rattle.std.specs.Prelude.{◌≡◌, ◌⊎◌, ◌+◌, ℕ, List, [], ◌∷◌, ◌++◌, length, Option}
+use Rattle.file_info.specs.Content.{Known, content, node_text}
+use Rattle.file_info.specs.Lists.{In}
+use Rattle.file_info.specs.declared.info.Info.{Info}
+use Rattle.file_info.specs.declared.info.Info.TheVariants.{Missing}
+use Rattle.file_info.specs.declared.info.Form.{Form}
+use Rattle.file_info.specs.declared.info.Form.TheVariants.{Follow}
+use Rattle.outside.specs.Telling.{Rose, Grew}
+use Rattle.outside.specs.Formed.{IsOrderOf}
+use Rattle.outside.specs.declared.order.Exit.{Exit}
+use Rattle.manifest_reader.specs.declared.command.Command.{Command}
+use Rattle.manifest_reader.specs.declared.command.Input.{Input}
+use Rattle.manifest_reader.specs.declared.command.TargetEntry.{TargetEntry}
+use Rattle.build_meaning.specs.Commands.{meaning_of}
+use Rattle.build_meaning.specs.Fresh.{Does, Sights, Fresh}
+use Rattle.build_meaning.specs.Needed.{IsNeeded}
+use Rattle.llbuild_cli.specs.declared.report.Heard.{Heard}
+use Rattle.llbuild_cli.specs.declared.report.Outcome.TheVariants.{Failed}
+use Rattle.llbuild_cli.specs.declared.report.Start.{Start}
+use Rattle.llbuild_cli.specs.declared.stop.Stop.{Stop}
+use Rattle.llbuild_cli.specs.declared.stop.Stop.TheVariants.{CommandFailed, MissingInput, DiskFault, SinkFault, NoMemory}
+use Rattle.llbuild_cli.specs.Heard.{IsDone, AllDone, AllEnded}
+use Rattle.llbuild_cli.specs.Ready.{IsOutput}
+use Rattle.llbuild_cli.specs.Reading.{IsFirstMissing}
+use Rattle.llbuild_cli.specs.Started.{start_of, AllStarted}
+use Rattle.llbuild_cli.specs.Texts.{line_of}
+use Rattle.llbuild_cli.specs.Written.{GrewByPart}
+
+-- the command was not started, and nothing was written
+pub record NotAnnounced (old new : Option (List ℕ)) (before after : List Start) : Type 0 where
+  pub same : after ≡ before
+  pub grew : Grew old new []
+
+-- the command was started, and its line was written
+pub record Announced (c : Command) (old new : Option (List ℕ)) (before after : List Start) : Type 0 where
+  pub more : after ≡ before ++ start_of c ∷ []
+  pub grew : Grew old new (line_of (length before + 1) (start_of c))
+
+-- the command was not started, and a part of its line was written
+pub record PartAnnounced (c : Command) (old new : Option (List ℕ)) (before after : List Start) : Type 0 where
+  pub same : after ≡ before
+  pub grew : GrewByPart old new (line_of (length before + 1) (start_of c))
+
+-- how far the start of a command came, by why the command stopped the build
+abbrev pub CameTo : Command → Option (List ℕ) → Option (List ℕ) → List Start → List Start → Stop → Type 0
+CameTo c old new before after (CommandFailed command exit) = Announced c old new before after
+CameTo c old new before after (MissingInput asker node) = NotAnnounced old new before after
+CameTo c old new before after DiskFault = NotAnnounced old new before after ⊎ Announced c old new before after
+CameTo c old new before after SinkFault = PartAnnounced c old new before after
+CameTo c old new before after NoMemory = PartAnnounced c old new before after ⊎ Announced c old new before after
+
+-- the order of the command ended
+pub record HeardOne (c : Command) (before after : List Heard) : Type 0 where
+  pub heard : Heard
+  pub more : after ≡ before ++ heard ∷ []
+  pub name : heard.order.command ≡ c.name
+  pub is : IsOrderOf (meaning_of c) heard.order
+  pub ticket : heard.order.ticket ≡ length before + 1
+
+-- the order of the command ended, and it succeeded
+pub record DoneOne (c : Command) (before after : List Heard) : Type 0 where
+  pub one : HeardOne c before after
+  pub done : IsDone one.heard.outcome
+
+-- the order of the command ended, and it failed so
+pub record FailedOne (c : Command) (exit : Exit) (before after : List Heard) : Type 0 where
+  pub one : HeardOne c before after
+  pub failed : one.heard.outcome ≡ Failed exit
+
+-- why a command stops a build: the disk or the sink failed, no memory was left, its first missing input is this one, or its
+-- order failed. Only then an end was heard.
+abbrev pub IsRunStop : ℕ → ℕ → ℕ → ℕ → (List ℕ → Info → Type 0) → Command → List Heard → List Heard → Stop → Type 0
+IsRunStop disk disk' sink sink' shown c before after (CommandFailed command exit) = (command ≡ c.name) × FailedOne c exit before after
+IsRunStop disk disk' sink sink' shown c before after (MissingInput asker node) = (asker ≡ c.name) × IsFirstMissing shown c.inputs node × (after ≡ before)
+IsRunStop disk disk' sink sink' shown c before after DiskFault = Rose disk disk' × (after ≡ before)
+IsRunStop disk disk' sink sink' shown c before after SinkFault = Rose sink sink' × (after ≡ before)
+IsRunStop disk disk' sink sink' shown c before after NoMemory = after ≡ before
+
+-- the path is an output of the command, which was started
+abbrev pub IsWrittenBy : Command → List Start → List ℕ → Type 0
+IsWrittenBy c starts p = In (start_of c) starts × IsOutput c p
+
+-- the path is an output of one of these commands that was started
+abbrev pub IsWritten : List Command → List Start → List ℕ → Type 0
+IsWritten commands starts p = (c : Command) × (In c commands × IsWrittenBy c starts p)
+
+-- the first command of those that are needed that was not started is this one, and the first of its inputs that is missing
+-- is written so
+pub record StopsCommand (commands : List Command) (wanted : List Input) (shown : List ℕ → Info → Type 0) (starts : List Start) (asker node : List ℕ) : Type 0 where
+  pub before : List Command
+  pub command : Command
+  pub after : List Command
+  pub commands_are : commands ≡ before ++ command ∷ after
+  pub needed : IsNeeded commands wanted command
+  pub started : (c : Command) → In c before → IsNeeded commands wanted c → In (start_of c) starts
+  pub not_started : In (start_of command) starts → ⊥
+  pub named : command.name ≡ asker
+  pub first : IsFirstMissing shown command.inputs node
+
+-- all commands that are needed were started, and the first of the target's nodes that is missing is written so
+pub record StopsTarget (commands : List Command) (target : TargetEntry) (shown : List ℕ → Info → Type 0) (starts : List Start) (asker node : List ℕ) : Type 0 where
+  pub started : AllStarted commands target.nodes starts
+  pub named : target.name ≡ asker
+  pub first : IsFirstMissing shown target.nodes node
+
+-- the last order that ended is that of this command, which failed so, and those before it succeeded
+pub record IsLastFailed (heard : List Heard) (command : List ℕ) (exit : Exit) : Type 0 where
+  pub before : List Heard
+  pub last : Heard
+  pub heard_are : heard ≡ before ++ last ∷ []
+  pub done : AllDone before
+  pub named : last.order.command ≡ command
+  pub failed : last.outcome ≡ Failed exit
+
+-- why a build stops, at the first failing event. Only at a failed command an order did not succeed, and only at a fault of
+-- the disk or for want of memory the order of a start may have no end.
+abbrev pub IsBuildStop : ℕ → ℕ → ℕ → ℕ → (List ℕ → Info → Type 0) → List Command → TargetEntry → List Start → List Heard → Stop → Type 0
+IsBuildStop disk disk' sink sink' shown commands target starts heard (CommandFailed command exit) = IsLastFailed heard command exit × AllEnded starts heard
+IsBuildStop disk disk' sink sink' shown commands target starts heard (MissingInput asker node) =
+    (StopsCommand commands target.nodes shown starts asker node ⊎ StopsTarget commands target shown starts asker node) × AllDone heard × AllEnded starts heard
+IsBuildStop disk disk' sink sink' shown commands target starts heard DiskFault = Rose disk disk' × AllDone heard
+IsBuildStop disk disk' sink sink' shown commands target starts heard SinkFault = Rose sink sink' × AllDone heard × AllEnded starts heard
+IsBuildStop disk disk' sink sink' shown commands target starts heard NoMemory = AllDone heard
+
+-- each of these nodes has the content that manifest and sources give it, and none is missing
+pub record AreFresh (does : Does) (m : List Known) (at : List ℕ → Form → Info) (commands : List Command) (sights : Sights) (nodes : List Input) : Type 0 where
+  pub fresh : (n : Input) → In n nodes → Fresh does m commands sights (node_text n.node) (content m (node_text n.node) (at (node_text n.node) Follow))
+  pub there : (n : Input) → In n nodes → at (node_text n.node) Follow ≡ Missing → ⊥
+
+-- why a build stops behind its commands: the disk or the sink failed, no memory was left, or this node is the first that is
+-- missing. A part of the summary was written at most, and at the others nothing.
+abbrev pub IsFinishStop : ℕ → ℕ → ℕ → ℕ → Option (List ℕ) → Option (List ℕ) → (List ℕ → Info → Type 0) → TargetEntry → List ℕ → Stop → Type 0
+IsFinishStop disk disk' sink sink' old new shown target text (CommandFailed command exit) = ⊥
+IsFinishStop disk disk' sink sink' old new shown target text (MissingInput asker node) = (asker ≡ target.name) × IsFirstMissing shown target.nodes node × Grew old new []
+IsFinishStop disk disk' sink sink' old new shown target text DiskFault = Rose disk disk' × Grew old new []
+IsFinishStop disk disk' sink sink' old new shown target text SinkFault = Rose sink sink' × GrewByPart old new text
+IsFinishStop disk disk' sink sink' old new shown target text NoMemory = GrewByPart old new text

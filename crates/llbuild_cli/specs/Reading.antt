@@ -1,0 +1,44 @@
+-- What is read of inputs.
+use Rattle.std.specs.Prelude.{◌≡◌, ℕ, List, [], ◌∷◌, ◌++◌}
+use Rattle.file_info.specs.declared.info.Info.{Info}
+use Rattle.file_info.specs.declared.info.Info.TheVariants.{Missing}
+use Rattle.file_info.specs.declared.node.NodeName.TheVariants.{Path}
+use Rattle.file_info.specs.declared.node.Read.{Read}
+use Rattle.file_info.specs.declared.node.Reading.TheVariants.{File}
+use Rattle.manifest_reader.specs.declared.command.Input.{Input}
+
+-- this stands at the path of the input, as it was seen
+pub record SeenAs (seen : List ℕ → Info → Type 0) (input : Input) (info : Info) : Type 0 where
+  pub path : List ℕ
+  pub node : input.node ≡ Path path
+  pub was : seen path info
+
+-- the file of the input was seen, is there and was read
+pub record IsRead (seen : List ℕ → Info → Type 0) (input : Input) (read : Read) : Type 0 where
+  pub info : Info
+  pub saw : SeenAs seen input info
+  pub there : info ≡ Missing → ⊥
+  pub node : read.node ≡ input.node
+  pub reading : read.reading ≡ File info
+
+-- each input was read, in order
+abbrev pub AreRead : (List ℕ → Info → Type 0) → List Input → List Read → Type 0
+AreRead seen [] [] = Unit {0}
+AreRead seen [] (read ∷ reads) = ⊥
+AreRead seen (input ∷ inputs) [] = ⊥
+AreRead seen (input ∷ inputs) (read ∷ reads) = IsRead seen input read × AreRead seen inputs reads
+
+-- the first of the inputs that is missing is written so: those before it were seen, and are there
+pub record IsFirstMissing (seen : List ℕ → Info → Type 0) (inputs : List Input) (written : List ℕ) : Type 0 where
+  pub before : List Input
+  pub input : Input
+  pub after : List Input
+  pub inputs_are : inputs ≡ before ++ input ∷ after
+  pub reads : List Read
+  pub there : AreRead seen before reads
+  pub missing : SeenAs seen input Missing
+  pub written_is : input.written ≡ written
+
+-- each input was read
+abbrev pub WereRead : (List ℕ → Info → Type 0) → List Input → Type 0
+WereRead seen inputs = (reads : List Read) × AreRead seen inputs reads

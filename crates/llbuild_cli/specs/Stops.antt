@@ -1,0 +1,72 @@
+-- Why a part of a build stops.
+use Rattle.std.specs.Prelude.{◌≡◌, ℕ, List, Result, Ok, Err}
+use Rattle.file_info.specs.declared.info.Info.{Info}
+use Rattle.file_info.specs.declared.info.Info.TheVariants.{Missing}
+use Rattle.outside.specs.Telling.{Rose}
+use Rattle.outside.specs.declared.disk.DiskError.{DiskError}
+use Rattle.outside.specs.declared.disk.DiskError.TheVariants as errors
+use Rattle.manifest_reader.specs.declared.command.Input.{Input}
+use Rattle.llbuild_cli.specs.declared.report.End.{End}
+use Rattle.llbuild_cli.specs.declared.report.End.TheVariants as ends
+use Rattle.llbuild_cli.specs.declared.stop.Stop.{Stop}
+use Rattle.llbuild_cli.specs.declared.stop.Stop.TheVariants.{CommandFailed, MissingInput, DiskFault, SinkFault, NoMemory}
+use Rattle.llbuild_cli.specs.Reading.{SeenAs, IsFirstMissing}
+
+-- what an error of a disk stops a build with
+abbrev pub stop_of : DiskError → Stop
+stop_of errors.Fault = DiskFault
+stop_of errors.NotDirectory = DiskFault
+stop_of errors.NoMemory = NoMemory
+
+-- how a run ends that is stopped so
+abbrev pub end_of : {F : Type 0} → Stop → End F
+end_of (CommandFailed command exit) = ends.CommandFailed command exit
+end_of (MissingInput asker node) = ends.MissingInput asker node
+end_of DiskFault = ends.DiskFault
+end_of SinkFault = ends.SinkFault
+end_of NoMemory = ends.NoMemory
+
+-- what holds at every stop but want of memory
+abbrev pub unless_memory : Stop → Type 0 → Type 0
+unless_memory (CommandFailed command exit) fact = fact
+unless_memory (MissingInput asker node) fact = fact
+unless_memory DiskFault fact = fact
+unless_memory SinkFault fact = fact
+unless_memory NoMemory fact = Unit {0}
+
+-- what holds at every end but want of memory
+abbrev pub ButForMemory : {T : Type 0} → Result T Stop → Type 0 → Type 0
+ButForMemory (Ok x) fact = fact
+ButForMemory (Err stop) fact = unless_memory stop fact
+
+-- the disk failed, or no memory was left
+abbrev pub IsDiskStop : ℕ → ℕ → Stop → Type 0
+IsDiskStop before now (CommandFailed command exit) = ⊥
+IsDiskStop before now (MissingInput asker node) = ⊥
+IsDiskStop before now DiskFault = Rose before now
+IsDiskStop before now SinkFault = ⊥
+IsDiskStop before now NoMemory = Unit {0}
+
+-- the sink failed, or no memory was left
+abbrev pub IsSinkStop : ℕ → ℕ → Stop → Type 0
+IsSinkStop before now (CommandFailed command exit) = ⊥
+IsSinkStop before now (MissingInput asker node) = ⊥
+IsSinkStop before now DiskFault = ⊥
+IsSinkStop before now SinkFault = Rose before now
+IsSinkStop before now NoMemory = Unit {0}
+
+-- the disk failed, no memory was left, or the input is missing
+abbrev pub IsReadStop : ℕ → ℕ → List ℕ → (List ℕ → Info → Type 0) → Input → Stop → Type 0
+IsReadStop before now asker seen input (CommandFailed command exit) = ⊥
+IsReadStop before now asker seen input (MissingInput by node) = (by ≡ asker) × (node ≡ input.written) × SeenAs seen input Missing
+IsReadStop before now asker seen input DiskFault = Rose before now
+IsReadStop before now asker seen input SinkFault = ⊥
+IsReadStop before now asker seen input NoMemory = Unit {0}
+
+-- the disk failed, no memory was left, or one of the inputs is missing, and this is the first
+abbrev pub IsInputStop : ℕ → ℕ → List ℕ → (List ℕ → Info → Type 0) → List Input → Stop → Type 0
+IsInputStop before now asker seen inputs (CommandFailed command exit) = ⊥
+IsInputStop before now asker seen inputs (MissingInput by node) = (by ≡ asker) × IsFirstMissing seen inputs node
+IsInputStop before now asker seen inputs DiskFault = Rose before now
+IsInputStop before now asker seen inputs SinkFault = ⊥
+IsInputStop before now asker seen inputs NoMemory = Unit {0}

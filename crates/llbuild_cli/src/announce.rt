@@ -1,0 +1,64 @@
+//! The line of a start.
+ghost use Rattle.std.specs.Prelude.{◌≡◌, ◌≤◌, ◌+◌, ◌∷◌, [], ◌++◌, length, IfOk, IfErr, OnOk, OnErr};
+ghost use Rattle.outside.specs.Telling.{Grew};
+ghost use Rattle.llbuild_cli.specs.Started.{shown_of, start_of};
+ghost use Rattle.llbuild_cli.specs.Stops.{IsSinkStop};
+ghost use Rattle.llbuild_cli.specs.Texts.{line_of};
+ghost use Rattle.llbuild_cli.specs.Written.{GrewByPart};
+
+use crate::put_all::put_all;
+use crate::report::{Reason, Start};
+use crate::stop::Stop;
+use crate::texts::line_of;
+use file_info::copied::Copied;
+use file_info::list::{Bytes, List};
+use file_info::memory::NoMemory;
+use manifest_reader::command::Command;
+use outside::sink::Sink;
+use std::alloc::Global;
+
+// What is shown of a command: its description, or its name.
+fn shown(alloc: Global, command: &Command) -> Result<Bytes, NoMemory>
+    ensures { IfOk result (λ text. text ≡ shown_of command.now.description command.now.name) }
+{
+    match &command.description {
+        Some(text) => text.copy(alloc),
+        None => Ok(List::from_vec(Vec::from_slice(alloc, command.name.text().as_bytes())?)),
+    }
+}
+
+// The start of a command of which no result is stored.
+fn start_of(alloc: Global, command: &Command) -> Result<Start, NoMemory>
+    ensures { IfOk result (λ start. start ≡ start_of command.now) }
+{
+    Ok(Start {
+        command: command.name.copy(alloc)?,
+        shown: shown(alloc, command)?,
+        reason: Reason::NeverBuilt,
+    })
+}
+
+/// Writes the line of a start, which is the next one, and notes it. The answer is its number.
+pub fn announce<O: Sink>(
+    alloc: Global,
+    command: &Command,
+    out: &mut O,
+    starts: &mut List<Start>,
+) -> Result<u64, Stop>
+    ensures ticket { IfOk result (λ ticket. ticket ≡ length starts.old + 1) }
+    ensures noted { OnOk result (starts.new ≡ starts.old ++ start_of command.now ∷ []) }
+    ensures wrote { OnOk result (Grew (O.bytes out.old) (O.bytes out.new) (line_of (length starts.old + 1) (start_of command.now))) }
+    ensures same { OnErr result (starts.new ≡ starts.old) }
+    ensures part { OnErr result (GrewByPart (O.bytes out.old) (O.bytes out.new) (line_of (length starts.old + 1) (start_of command.now))) }
+    ensures stop { IfErr result (IsSinkStop (O.faults out.old) (O.faults out.new)) }
+    ensures later { O.faults out.old ≤ O.faults out.new }
+{
+    let start = start_of(alloc, command)?;
+    let Some(ticket) = (starts.len() as u64).checked_add(1) else {
+        return Err(Stop::NoMemory);
+    };
+    let line = line_of(alloc, ticket, &start)?;
+    put_all(out, line.as_slice())?;
+    starts.push(start)?;
+    Ok(ticket)
+}
