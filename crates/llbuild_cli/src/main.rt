@@ -4,29 +4,24 @@
 mod announce;
 mod build;
 mod execute;
-mod files;
 mod in_memory;
 mod look;
 mod open;
-mod programs;
 mod put_all;
 mod reach;
-mod real_world;
 mod report;
 mod run;
 mod seen;
 mod settle;
 mod signature;
-mod spawn;
-mod std_sink;
 mod stop;
 mod texts;
 mod words;
 
-use crate::real_world::RealWorld;
 use crate::run::run_alone;
-use crate::std_sink::StdSink;
 use memory_world::toy::ToyLaw;
+use real_world::std_sink::StdSink;
+use real_world::world::RealWorld;
 use std::process::ExitCode;
 use std::{env, io};
 
