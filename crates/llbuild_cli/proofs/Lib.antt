@@ -1,7 +1,6 @@
 pub mod Sinks
 pub mod WordPath
 pub mod Written
-pub mod Spelling
 pub mod Going
 pub mod Inputs
 pub mod Steps

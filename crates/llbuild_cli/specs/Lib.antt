@@ -16,7 +16,6 @@ pub mod Status
 pub mod Words
 pub mod Job
 pub mod Written
-pub mod Program
 pub mod Printed
 pub mod Built
 pub mod Ends

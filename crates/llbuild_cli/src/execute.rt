@@ -7,7 +7,6 @@ ghost use Rattle.llbuild_cli.specs.Moved.{Moved};
 ghost use Rattle.llbuild_cli.specs.Ready.{IsSound, IsOutput, IsOrderFor, ReadsStand, DidLaw};
 ghost use Rattle.llbuild_cli.specs.Stops.{IsDiskStop};
 
-use crate::signature::order_of;
 use crate::stop::Stop;
 use file_info::list::List;
 use file_info::node::Read;
@@ -16,6 +15,7 @@ use outside::law::Law;
 use outside::order::{Ended, Exit};
 use outside::world::World;
 use std::alloc::Global;
+use tool_commands::signature::order_of;
 
 /// Begins the order of a command on what was read of its inputs, and awaits its end.
 pub fn execute<L: Law, W: World<L>>(

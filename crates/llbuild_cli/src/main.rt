@@ -13,7 +13,6 @@ mod report;
 mod run;
 mod seen;
 mod settle;
-mod signature;
 mod stop;
 mod texts;
 mod words;

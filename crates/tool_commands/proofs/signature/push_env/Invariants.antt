@@ -3,7 +3,7 @@ use Rattle.outside.specs.Spelled.{items_bytes}
 use Rattle.outside.specs.Meaning.{env_bytes}
 use Rattle.manifest_reader.specs.declared.command.EnvPair.{EnvPair}
 use Rattle.build_meaning.specs.Commands.{variable_of}
-use Rattle.llbuild_cli.proofs.signature.push_env.Given as goal
+use Rattle.tool_commands.proofs.signature.push_env.Given as goal
 
 abbrev pub invariant-loop-pair : goal.invariant-loop-pair
 invariant-loop-pair l = l.out.items ≡ l.initial.out.items ++ items_bytes (λ (p : EnvPair). env_bytes (variable_of p)) (take l.pair-index l.pair-items)

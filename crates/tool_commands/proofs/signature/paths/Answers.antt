@@ -1,7 +1,7 @@
 use Rattle.std.proofs.Common.{◌∙◌}
-use Rattle.llbuild_cli.proofs.Spelling.{path_taken, virtual_left}
-use Rattle.llbuild_cli.proofs.signature.paths.Goals as goal
-use Rattle.llbuild_cli.proofs.signature.paths.Goals.{in-Path+in_ok-copy-in-Path+in_ok-push-in-Path, in-Virtual}
+use Rattle.tool_commands.proofs.Spelling.{path_taken, virtual_left}
+use Rattle.tool_commands.proofs.signature.paths.Goals as goal
+use Rattle.tool_commands.proofs.signature.paths.Goals.{in-Path+in_ok-copy-in-Path+in_ok-push-in-Path, in-Virtual}
 
 pub loop-node-preserved : goal.loop-node-preserved
 loop-node-preserved c = elim c.match-node.branch [

@@ -7,7 +7,7 @@ ghost use Rattle.outside.specs.Meaning.{key_bytes, env_bytes, signature_of};
 ghost use Rattle.outside.specs.Formed.{AreReadsOf, IsActOf, IsOrderOf, paths_of};
 ghost use Rattle.manifest_reader.specs.declared.command.Tool.TheVariants as tools;
 ghost use Rattle.build_meaning.specs.Commands.{key_of, variable_of, meaning_of};
-ghost use Rattle.llbuild_cli.specs.Program.{program_bytes, definition_bytes, words_of};
+ghost use Rattle.tool_commands.specs.Program.{program_bytes, definition_bytes, words_of};
 
 use file_info::copied::Copied;
 use file_info::list::{Bytes, List};

@@ -1,7 +1,7 @@
 use Rattle.std.proofs.Common.{◌++◌, ◌∙◌, ap}
 use Rattle.outside.specs.Spelled.{text_bytes}
-use Rattle.llbuild_cli.proofs.Spelling.{pushed_more}
-use Rattle.llbuild_cli.proofs.signature.push_paths.Goals as goal
+use Rattle.tool_commands.proofs.Spelling.{pushed_more}
+use Rattle.tool_commands.proofs.signature.push_paths.Goals as goal
 
 pub loop-path-preserved : goal.loop-path-preserved
 loop-path-preserved c =

@@ -1,7 +1,7 @@
 use Rattle.std.proofs.Common.{◌++◌, ◌∙◌, ap}
 use Rattle.outside.specs.Spelled.{text_bytes}
-use Rattle.llbuild_cli.proofs.Spelling.{pushed_more}
-use Rattle.llbuild_cli.proofs.signature.push_texts.Goals as goal
+use Rattle.tool_commands.proofs.Spelling.{pushed_more}
+use Rattle.tool_commands.proofs.signature.push_texts.Goals as goal
 
 pub loop-text-preserved : goal.loop-text-preserved
 loop-text-preserved c =

@@ -1,6 +1,6 @@
 use Rattle.std.proofs.Common.{◌∙◌}
-use Rattle.llbuild_cli.proofs.Spelling.{pushed_parts, pushed_front}
-use Rattle.llbuild_cli.proofs.signature.signature.Goals as goal
+use Rattle.tool_commands.proofs.Spelling.{pushed_parts, pushed_front}
+use Rattle.tool_commands.proofs.signature.signature.Goals as goal
 
 pub returns : goal.returns
 returns c shell =

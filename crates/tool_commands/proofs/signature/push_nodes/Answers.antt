@@ -1,6 +1,6 @@
 use Rattle.outside.specs.Spelled.{node_bytes}
-use Rattle.llbuild_cli.proofs.Spelling.{pushed_more}
-use Rattle.llbuild_cli.proofs.signature.push_nodes.Goals as goal
+use Rattle.tool_commands.proofs.Spelling.{pushed_more}
+use Rattle.tool_commands.proofs.signature.push_nodes.Goals as goal
 
 pub loop-node-preserved : goal.loop-node-preserved
 loop-node-preserved c =

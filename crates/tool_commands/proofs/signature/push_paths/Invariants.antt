@@ -1,6 +1,6 @@
 use Rattle.std.proofs.Common.{◌≡◌, ◌++◌, take}
 use Rattle.outside.specs.Spelled.{items_bytes, text_bytes}
-use Rattle.llbuild_cli.proofs.signature.push_paths.Given as goal
+use Rattle.tool_commands.proofs.signature.push_paths.Given as goal
 
 abbrev pub invariant-loop-path : goal.invariant-loop-path
 invariant-loop-path l = l.out.items ≡ l.initial.out.items ++ items_bytes text_bytes (take l.path-index l.path-items)

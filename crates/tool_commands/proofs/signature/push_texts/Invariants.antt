@@ -1,6 +1,6 @@
 use Rattle.std.proofs.Common.{◌≡◌, ◌++◌, take}
 use Rattle.outside.specs.Spelled.{items_bytes, text_bytes}
-use Rattle.llbuild_cli.proofs.signature.push_texts.Given as goal
+use Rattle.tool_commands.proofs.signature.push_texts.Given as goal
 
 abbrev pub invariant-loop-text : goal.invariant-loop-text
 invariant-loop-text l = l.out.items ≡ l.initial.out.items ++ items_bytes text_bytes (take l.text-index l.text-items)

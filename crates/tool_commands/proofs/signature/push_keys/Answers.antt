@@ -1,8 +1,8 @@
 use Rattle.outside.specs.Meaning.{key_bytes}
 use Rattle.manifest_reader.specs.declared.command.Input.{Input}
 use Rattle.build_meaning.specs.Commands.{key_of}
-use Rattle.llbuild_cli.proofs.Spelling.{pushed_more, pushed_all}
-use Rattle.llbuild_cli.proofs.signature.push_keys.Goals as goal
+use Rattle.tool_commands.proofs.Spelling.{pushed_more, pushed_all}
+use Rattle.tool_commands.proofs.signature.push_keys.Goals as goal
 
 pub loop-input-preserved : goal.loop-input-preserved
 loop-input-preserved c =

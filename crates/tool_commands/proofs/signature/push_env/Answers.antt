@@ -3,8 +3,8 @@ use Rattle.outside.specs.Spelled.{text_bytes}
 use Rattle.outside.specs.Meaning.{env_bytes}
 use Rattle.manifest_reader.specs.declared.command.EnvPair.{EnvPair}
 use Rattle.build_meaning.specs.Commands.{variable_of}
-use Rattle.llbuild_cli.proofs.Spelling.{pushed_more, pushed_all, pushed_both}
-use Rattle.llbuild_cli.proofs.signature.push_env.Goals as goal
+use Rattle.tool_commands.proofs.Spelling.{pushed_more, pushed_all, pushed_both}
+use Rattle.tool_commands.proofs.signature.push_env.Goals as goal
 
 pub loop-pair-preserved : goal.loop-pair-preserved
 loop-pair-preserved c =

@@ -1,5 +1,5 @@
-use Rattle.llbuild_cli.proofs.Spelling.{variables_more}
-use Rattle.llbuild_cli.proofs.signature.variables.Goals as goal
+use Rattle.tool_commands.proofs.Spelling.{variables_more}
+use Rattle.tool_commands.proofs.signature.variables.Goals as goal
 
 pub loop-pair-preserved : goal.loop-pair-preserved
 loop-pair-preserved c =

@@ -13,7 +13,7 @@ use Rattle.manifest_reader.specs.declared.command.Command.{Command}
 use Rattle.manifest_reader.specs.declared.command.EnvPair.{EnvPair}
 use Rattle.manifest_reader.specs.declared.command.Tool.TheVariants as tools
 use Rattle.build_meaning.specs.Commands.{key_of, variable_of, shell_of, tool_in, meaning_of}
-use Rattle.llbuild_cli.specs.Program.{definition_bytes}
+use Rattle.tool_commands.specs.Program.{definition_bytes}
 
 pub items-append : {A : Type 0} (f : A → List ℕ) (xs ys : List A) → items_bytes f (xs ++ ys) ≡ items_bytes f xs ++ items_bytes f ys
 items-append f [] ys = refl
