@@ -41,25 +41,29 @@ fn add_env(command: &mut Command, env: &List<EnvText>) -> io::Result<()> {
     Ok(())
 }
 
+// A program that is to be started: its name, its other words, and its variables.
+#[derive(Drop)]
+struct Program<'a> {
+    name: &'a str,
+    others: &'a [Bytes],
+    env: &'a List<EnvText>,
+    inherit_env: bool,
+}
+
 // Starts a program, from this file. It has no standard input, and shares standard output and error with this process.
 fn start<P: Processes>(
     processes: &P,
     alloc: Global,
     file: &str,
-    words: &[Bytes],
-    env: &List<EnvText>,
-    inherit_env: bool,
+    program: &Program,
 ) -> io::Result<Child<P::Started>> {
-    let Some((program, others)) = words.split_first() else {
-        return Err(io::Error::from(ErrorKind::InvalidInput));
-    };
     let mut command = Command::new(alloc, file)?;
-    command.arg0(text_of(program)?)?;
-    add_words(&mut command, others)?;
-    if !inherit_env {
+    command.arg0(program.name)?;
+    add_words(&mut command, program.others)?;
+    if !program.inherit_env {
         command.env_clear();
     }
-    add_env(&mut command, env)?;
+    add_env(&mut command, program.env)?;
     command.stdin(Stdio::null());
     command.spawn(processes)
 }
@@ -69,20 +73,14 @@ fn start_found<P: Processes>(
     processes: &P,
     alloc: Global,
     programs: &Programs,
-    words: &[Bytes],
-    env: &List<EnvText>,
-    inherit_env: bool,
+    program: &Program,
 ) -> io::Result<Child<P::Started>> {
-    let Some(program) = words.first() else {
-        return Err(io::Error::from(ErrorKind::InvalidInput));
-    };
-    let name = text_of(program)?;
-    if let Some(file) = programs.file(name) {
-        if let Ok(child) = start(processes, alloc, file, words, env, inherit_env) {
+    if let Some(file) = programs.file(program.name) {
+        if let Ok(child) = start(processes, alloc, file, program) {
             return Ok(child);
         }
     }
-    start(processes, alloc, name, words, env, inherit_env)
+    start(processes, alloc, program.name, program)
 }
 
 // Runs a program to its end. Where variables are set for it, or those of this process are not handed on, `PATH` may differ,
@@ -95,15 +93,20 @@ fn run<P: Processes + Files + Env + AllocGlobal>(
     env: &List<EnvText>,
     inherit_env: bool,
 ) -> io::Result<Exit> {
-    let Some(program) = words.first() else {
+    let Some((first, others)) = words.split_first() else {
         return Err(io::Error::from(ErrorKind::InvalidInput));
     };
-    let name = text_of(program)?;
+    let program = Program {
+        name: text_of(first)?,
+        others,
+        env,
+        inherit_env,
+    };
     let mut child = if inherit_env && env.is_empty() {
-        programs.look_for(rt, name)?;
-        start_found(rt, alloc, programs, words, env, inherit_env)?
+        programs.look_for(rt, program.name)?;
+        start_found(rt, alloc, programs, &program)?
     } else {
-        start(rt, alloc, name, words, env, inherit_env)?
+        start(rt, alloc, program.name, &program)?
     };
     Ok(exit_of(child.wait()?))
 }
