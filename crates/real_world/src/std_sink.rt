@@ -20,10 +20,11 @@ impl<W: Write + Drop> StdSink<W> {
 
 impl<W: Write + Drop> Sink for StdSink<W> {
     ghost use Rattle.std.specs.Prelude.{None};
+    ghost use Rattle.real_world.specs.Shown.{sink_faults};
 
     ghost bytes = { λ s. None };
 
-    ghost faults = { λ s. s.faults };
+    ghost faults = { λ s. sink_faults s };
 
     fn put(&mut self, piece: &[u8]) -> Result<usize, SinkFault> {
         if piece.is_empty() {

@@ -57,9 +57,11 @@ impl<R: Files + AllocGlobal + Drop> RealDisk<R> {
 }
 
 impl<R: Files + Env + AllocGlobal + Processes + Drop> RealWorld<R> {
+    ghost use Rattle.real_world.specs.Shown.{waiting_orders};
+
     /// The world with nothing begun.
     pub fn new(rt: R) -> RealWorld<R>
-        ensures { result.waiting.items ≡ [] }
+        ensures { waiting_orders result ≡ [] }
     {
         let alloc = rt.alloc();
         RealWorld {
@@ -74,6 +76,7 @@ impl<R: Files + Env + AllocGlobal + Processes + Drop> RealWorld<R> {
 
 impl<L: Law, R: Files + AllocGlobal + Drop> Disk<L> for RealDisk<R> {
     ghost use Rattle.std.specs.Prelude.{[]};
+    ghost use Rattle.real_world.specs.Shown.{disk_faults};
     ghost use Rattle.file_info.specs.declared.info.Info.TheVariants.{Missing};
 
     ghost at = { λ d p f. Missing };
@@ -82,7 +85,7 @@ impl<L: Law, R: Files + AllocGlobal + Drop> Disk<L> for RealDisk<R> {
 
     ghost tells = { λ d m. ⊥ };
 
-    ghost faults = { λ d. d.faults };
+    ghost faults = { λ d. disk_faults d };
 
     ghost orders = { λ d. [] };
 
@@ -104,6 +107,7 @@ impl<L: Law, R: Files + AllocGlobal + Drop> Disk<L> for RealDisk<R> {
 }
 
 impl<L: Law, R: Files + Env + AllocGlobal + Processes + Drop> Disk<L> for RealWorld<R> {
+    ghost use Rattle.real_world.specs.Shown.{world_faults, waiting_orders, begun_orders};
     ghost use Rattle.file_info.specs.declared.info.Info.TheVariants.{Missing};
 
     ghost at = { λ w p f. Missing };
@@ -112,11 +116,11 @@ impl<L: Law, R: Files + Env + AllocGlobal + Processes + Drop> Disk<L> for RealWo
 
     ghost tells = { λ w m. ⊥ };
 
-    ghost faults = { λ w. w.faults };
+    ghost faults = { λ w. world_faults w };
 
-    ghost orders = { λ w. w.waiting.items };
+    ghost orders = { λ w. waiting_orders w };
 
-    ghost begins = { λ w. w.begins };
+    ghost begins = { λ w. begun_orders w };
 
     ghost leads_to_no_link = { λ w p text t e. t };
 
