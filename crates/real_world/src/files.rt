@@ -63,7 +63,7 @@ fn metadata_of<R: Files>(rt: &R, path: &PathName, form: Form) -> io::Result<Meta
     }
 }
 
-/// What stands at a path.
+/// What stands at a path. It fails as the system does, but not where nothing stands there.
 pub fn info_of<R: Files + AllocGlobal>(rt: &R, path: &PathName, form: Form) -> io::Result<Info> {
     let metadata = match metadata_of(rt, path, form) {
         Ok(metadata) => metadata,
@@ -91,7 +91,8 @@ fn some_bytes<F: Read + Drop>(alloc: Global, file: F, most: u64) -> io::Result<V
     Ok(bytes)
 }
 
-/// The bytes of a file, where there are at most `most`.
+/// The bytes of the file that a path leads to, where there are at most `most`. It fails as the system does, but not where nothing
+/// stands there.
 pub fn bytes_of<R: Files + AllocGlobal>(
     rt: &R,
     path: &PathName,

@@ -4,7 +4,8 @@ ghost use Rattle.std.specs.Prelude.{◌≡◌, ℕ, ◌+◌, ◌<◌, ◌≤◌,
 use outside::sink::{Sink, SinkFault};
 use std::io::Write;
 
-/// A stream of this process. It tells nothing of what was written.
+/// A stream of this process. It tells nothing of what was written. A write that fails, or that takes nothing of a piece, is a
+/// fault.
 #[derive(Drop)]
 pub struct StdSink<W: Write + Drop> {
     writer: W,

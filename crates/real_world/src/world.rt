@@ -17,14 +17,16 @@ use std::io;
 use std::process::Processes;
 use std::rt::{Env, Files};
 
-/// The files of this machine, seen from the folder of this process.
+/// The files of this machine, seen from the folder of this process. That nothing stands at a path is an answer; any other failure
+/// is a fault, or want of memory.
 #[derive(Drop)]
 pub struct RealDisk<R: Files + AllocGlobal + Drop> {
     rt: R,
     faults: u64,
 }
 
-/// The files, and the programs that run on them. An order that is begun waits; `end` runs the oldest.
+/// The files, and the programs that run on them. An order that is begun waits; `end` runs the oldest. A program that cannot be
+/// started is a fault, and then no order waits any more.
 #[derive(Drop)]
 pub struct RealWorld<R: Files + Env + AllocGlobal + Processes + Drop> {
     rt: R,
