@@ -4,7 +4,7 @@ use Rattle.std.proofs.lemmas.List.{take_more, take_all, length-map}
 use Rattle.file_info.specs.declared.node.NodeName.{NodeName}
 use Rattle.file_info.specs.declared.node.NodeName.TheVariants.{Path, Virtual}
 use Rattle.outside.specs.Spelled.{count_bytes, flag_bytes, text_bytes, items_bytes, list_bytes, node_bytes}
-use Rattle.outside.specs.Meaning.{ToolMeaning, group_of, key_bytes, env_bytes, tool_bytes, signature_of}
+use Rattle.outside.specs.Meaning.{ToolMeaning, group_of, key_bytes, tool_bytes, signature_of}
 use Rattle.outside.specs.Formed.{paths_of}
 use Rattle.outside.specs.declared.order.EnvText.{EnvText}
 use Rattle.manifest_reader.specs.declared.command.Args.{Args}

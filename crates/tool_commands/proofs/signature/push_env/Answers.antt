@@ -1,5 +1,3 @@
-use Rattle.std.proofs.Common.{◌++◌, ◌∙◌, ap, append_assoc}
-use Rattle.outside.specs.Spelled.{text_bytes}
 use Rattle.outside.specs.Meaning.{env_bytes}
 use Rattle.manifest_reader.specs.declared.command.EnvPair.{EnvPair}
 use Rattle.build_meaning.specs.Commands.{variable_of}
