@@ -1,5 +1,5 @@
 //! The canonical text of a shell command's meaning, and the order that it gives.
-ghost use Rattle.std.specs.Prelude.{◌≡◌, ◌<◌, ◌^◌, ◌∷◌, [], ◌++◌, length, map, IfOk, OnOk};
+ghost use Rattle.std.specs.Prelude.{◌≡◌, ◌<◌, ◌^◌, ◌∷◌, [], ◌++◌, length, map, false, IfOk, OnOk};
 ghost use Rattle.file_info.specs.Content.{node_text};
 ghost use Rattle.file_info.specs.Lists.{IsDistinct};
 ghost use Rattle.outside.specs.Spelled.{count_bytes, flag_bytes, text_bytes, list_bytes, node_bytes};
@@ -273,6 +273,7 @@ pub fn order_of(
     ensures command { IfOk result (λ order. order.command ≡ command.now.name) }
     ensures signature { command.now.tool ≡ tools.Shell → IfOk result (λ order. order.signature ≡ signature_of (meaning_of command.now)) }
     ensures act { command.now.tool ≡ tools.Shell → IfOk result (λ order. IsActOf (meaning_of command.now).tool order.act) }
+    ensures spawned { IfOk result (λ order. order.act ≡ Act.Spawn (words_of command.now.args) (map variable_of command.now.env) command.now.inherit_env false) }
     ensures reads { IfOk result (λ order. order.reads ≡ reads) }
     ensures outputs { IfOk result (λ order. order.outputs ≡ paths_of command.now.outputs) }
     ensures deps { IfOk result (λ order. order.deps ≡ command.now.deps) }
