@@ -13,8 +13,12 @@ pub struct StdSink<W: Write + Drop> {
 }
 
 impl<W: Write + Drop> StdSink<W> {
+    ghost use Rattle.real_world.specs.Shown.{sink_faults};
+
     /// The stream, which has not failed yet.
-    pub fn new(writer: W) -> StdSink<W> {
+    pub fn new(writer: W) -> StdSink<W>
+        ensures { sink_faults result ≡ 0 }
+    {
         StdSink { writer, faults: 0 }
     }
 }

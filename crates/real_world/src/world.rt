@@ -52,18 +52,24 @@ fn answer<T: Drop>(faults: &mut u64, outcome: io::Result<T>) -> Result<T, DiskEr
 }
 
 impl<R: Files + AllocGlobal + Drop> RealDisk<R> {
+    ghost use Rattle.real_world.specs.Shown.{disk_faults};
+
     /// The disk, which has not failed yet.
-    pub fn new(rt: R) -> RealDisk<R> {
+    pub fn new(rt: R) -> RealDisk<R>
+        ensures { disk_faults result ≡ 0 }
+    {
         RealDisk { rt, faults: 0 }
     }
 }
 
 impl<R: Files + Env + AllocGlobal + Processes + Drop> RealWorld<R> {
-    ghost use Rattle.real_world.specs.Shown.{waiting_orders};
+    ghost use Rattle.real_world.specs.Shown.{world_faults, waiting_orders, begun_orders};
 
     /// The world with nothing begun.
     pub fn new(rt: R) -> RealWorld<R>
-        ensures { waiting_orders result ≡ [] }
+        ensures none { waiting_orders result ≡ [] }
+        ensures faults { world_faults result ≡ 0 }
+        ensures begins { begun_orders result ≡ 0 }
     {
         let alloc = rt.alloc();
         RealWorld {
