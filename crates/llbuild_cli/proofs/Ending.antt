@@ -20,7 +20,6 @@ use Rattle.manifest_reader.specs.Load.{loaded}
 use Rattle.manifest_reader.specs.Manifest.{ManifestLists}
 use Rattle.manifest_reader.specs.Places.{target_place, target_named}
 use Rattle.build_meaning.specs.Fresh.{Does}
-use Rattle.build_meaning.specs.Unique.{SawOnce}
 use Rattle.build_meaning.proofs.Ins.{In-get, In-either, In-one}
 use Rattle.llbuild_cli.specs.declared.report.End.{End}
 use Rattle.llbuild_cli.specs.declared.report.End.TheVariants as ends
@@ -33,6 +32,7 @@ use Rattle.llbuild_cli.specs.declared.stop.Stop.{Stop}
 use Rattle.llbuild_cli.specs.declared.stop.Stop.TheVariants as stops
 use Rattle.llbuild_cli.specs.declared.words.Job.{Job}
 use Rattle.llbuild_cli.specs.declared.words.UsageFault.TheVariants.{Words}
+use Rattle.llbuild_cli.specs.Asked.{StopsAtMissing, AllReadFirst}
 use Rattle.llbuild_cli.specs.Built.{IsBuildStop, IsLastFailed, IsWritten, AreFresh}
 use Rattle.llbuild_cli.specs.Ends.{WithPlan, IsJob, IsIdle, IsEnd, IsEarlyEnd, StartedOnly, WasWritten, MayBeNext}
 use Rattle.llbuild_cli.specs.Heard.{HeardWell, AllDone, AllEnded, IsDone, AreOrders, AreInStep, heard_names}
@@ -40,14 +40,16 @@ use Rattle.llbuild_cli.specs.Job.{Plan, plan_loaded, plan_named, plan_of, manife
 use Rattle.llbuild_cli.specs.Moved.{Moved}
 use Rattle.llbuild_cli.specs.Opened.{IsAnswered, IsReadEnd, IsLoadEnd, IsOpened}
 use Rattle.llbuild_cli.specs.Printed.{IsNextText, line, summary, WrotePart, Wrote, WroteStopped}
+use Rattle.llbuild_cli.specs.Reading.{WereRead}
 use Rattle.llbuild_cli.specs.Seen.{sights_of}
 use Rattle.llbuild_cli.specs.Serving.{Served}
-use Rattle.llbuild_cli.specs.Shows.{Shows, ShownStands}
+use Rattle.llbuild_cli.specs.Shows.{Shows, ShownStands, IsSingle}
 use Rattle.llbuild_cli.specs.Started.{AllStarted, AreStarts, IsNextStart}
 use Rattle.llbuild_cli.specs.Stops.{end_of, unless_memory}
 use Rattle.llbuild_cli.specs.Texts.{lines_of, summary_text}
 use Rattle.llbuild_cli.specs.Words.{job_of}
 use Rattle.llbuild_cli.proofs.Going.{moved_both, moved_wider}
+use Rattle.llbuild_cli.proofs.Asking.{read_not_stuck, target_asks}
 use Rattle.llbuild_cli.proofs.Sinks.{Grew-none}
 use Rattle.llbuild_cli.proofs.Stopping.{no_part}
 
@@ -147,18 +149,22 @@ early_not_ok : {D : Type 0} (at : D → List ℕ → Form → Info) (told : D �
     → IsEarlyEnd at told tells old new disk disk' words end → end ≡ ends.Ok → ⊥
 early_not_ok at told tells old new disk disk' words end why ok = subst (λ (e : End NoFault). IsEarlyEnd at told tells old new disk disk' words e) ok why
 
+nothing_shown : (stats : List StatSeen) (heard : List Heard) (p : List ℕ) (i : Info) → stats ≡ [] → heard ≡ [] → Shows stats heard p i → ⊥
+nothing_shown stats heard p i k h shows = elim shows [
+  | inl sight ↦ absurd (subst (λ (xs : List StatSeen). In (p, i) (sights_of xs)) k sight)
+  | inr was ↦ absurd (subst (λ (hs : List Heard). In was.0 hs) h was.1.0)
+]
+
 -- a run that ended before it built
 pub early_served : {D : Type 0} (at : D → List ℕ → Form → Info) (told : D → Type 0) (tells : D → List Known → Type 0) (faults : D → ℕ) (ended : Order → Exit → Type 0) (does : Does) (old new : D) (sink : ℕ) (bytes : Option (List ℕ)) (words : List (List ℕ))
     (starts : List Start) (stats : List StatSeen) (heard : List Heard) (end : End NoFault)
     → starts ≡ [] → stats ≡ [] → heard ≡ [] → IsEarlyEnd at told tells old new (faults old) (faults new) words end → Moved told tells at faults (λ p. ⊥) old new
     → Served at told tells faults ended does old new sink sink bytes bytes words starts stats heard end
 early_served at told tells faults ended does old new sink bytes words starts stats heard end s k h why moved = record {
-  stood = λ n m t p i shows. elim shows [
-    | inl sight ↦ absurd (subst (λ (xs : List StatSeen). In (p, i) (sights_of xs)) k sight)
-    | inr was ↦ absurd (subst (λ (hs : List Heard). In was.0 hs) h was.1.0)
-  ];
+  stood = λ n m t p i shows. absurd (nothing_shown stats heard p i k h shows);
   fresh = λ ok. absurd (early_not_ok at told tells old new (faults old) (faults new) words end why ok);
-  once = λ ok. absurd (early_not_ok at told tells old new (faults old) (faults new) words end why ok);
+  once = λ n p i j a b. absurd (nothing_shown stats heard p i k h a);
+  inputs = λ n. inl (record { starts_are = s; heard_are = h }, k);
   started = inl (record { starts_are = s; heard_are = h });
   step = record { rest = []; names = ap (map (λ (x : Start). x.command)) s ∙ sym (ap (λ (hs : List Heard). heard_names hs ++ []) h); few = omega arith };
   well = record { given = λ x i. absurd (subst (λ (hs : List Heard). In x hs) h i); lawful = λ m t x i. absurd (subst (λ (hs : List Heard). In x hs) h i) };
@@ -215,12 +221,24 @@ pub stopped_served : {D : Type 0} (at : D → List ℕ → Form → Info) (told 
     → AreStarts plan.manifest.commands plan.target.nodes starts → AreOrders plan.manifest.commands heard → AreInStep starts heard → HeardWell tells ended does new heard
     → WroteStopped (IsNextStart plan.manifest.commands plan.target.nodes starts) bytes bytes' starts stop
     → IsBuildStop (faults mid) (faults new) sink sink' (Shows stats heard) plan.manifest.commands plan.target starts heard stop
-    → unless_memory stop (ShownStands at tells new stats heard)
+    → unless_memory stop (ShownStands at tells new stats heard) → unless_memory stop (IsSingle (Shows stats heard))
+    → unless_memory stop (AllReadFirst plan.manifest.commands (Shows stats heard) starts heard) → StopsAtMissing plan.manifest.commands plan.target (Shows stats heard) starts heard stop
     → Served at told tells faults ended does old new sink sink' bytes bytes' words starts stats heard (end_of stop)
-stopped_served at told tells faults ended does old mid new sink sink' bytes bytes' words plan starts stats heard stop is opened moved are orders step well wrote why stood = record {
+stopped_served at told tells faults ended does old mid new sink sink' bytes bytes' words plan starts stats heard stop is opened moved are orders step well wrote why stood single read missing = record {
   stood = unless_end stop (ShownStands at tells new stats heard) stood;
   fresh = λ ok. absurd (stop_not_ok stop ok);
-  once = λ ok. absurd (stop_not_ok stop ok);
+  once = unless_end stop (IsSingle (Shows stats heard)) single;
+  inputs = λ n. inr (record {
+    plan = plan;
+    is = is;
+    holds = (
+      unless_end stop (AllReadFirst plan.manifest.commands (Shows stats heard) starts heard) read n,
+      λ asker node stuck done every. elim (missing asker node stuck done every) [
+        | inl e ↦ ap (end_of {F = NoFault}) e
+        | inr e ↦ absurd (n (ap (end_of {F = NoFault}) e))
+      ],
+    );
+  });
   started = inr (record { plan = plan; is = is; holds = (are, orders) });
   step = step;
   well = well;
@@ -234,18 +252,24 @@ pub built_served : {D : Type 0} (at : D → List ℕ → Form → Info) (told : 
     (plan : Plan) (starts : List Start) (stats : List StatSeen) (heard : List Heard)
     → IsPlan at told tells old new words plan → Moved told tells at faults (λ p. ⊥) old mid → Moved told tells at faults (IsWritten plan.manifest.commands starts) mid new
     → AreStarts plan.manifest.commands plan.target.nodes starts → AreOrders plan.manifest.commands heard → AreInStep starts heard → HeardWell tells ended does new heard
-    → Grew bytes bytes' (lines_of starts ++ summary_text (length starts)) → AllStarted plan.manifest.commands plan.target.nodes starts → AllDone heard → AllEnded starts heard → SawOnce (sights_of stats) → ShownStands at tells new stats heard
+    → Grew bytes bytes' (lines_of starts ++ summary_text (length starts)) → AllStarted plan.manifest.commands plan.target.nodes starts → AllDone heard → AllEnded starts heard → ShownStands at tells new stats heard
+    → IsSingle (Shows stats heard) → AllReadFirst plan.manifest.commands (Shows stats heard) starts heard → WereRead (Shows stats heard) plan.target.nodes
     → ((m : List Known) → tells new m → AreFresh does m (at new) plan.manifest.commands (sights_of stats) plan.target.nodes)
     → Served at told tells faults ended does old new sink sink' bytes bytes' words starts stats heard ends.Ok
-built_served at told tells faults ended does old mid new sink sink' bytes bytes' words plan starts stats heard is opened moved are orders step well wrote all done every once stood fresh = record {
+built_served at told tells faults ended does old mid new sink sink' bytes bytes' words plan starts stats heard is opened moved are orders step well wrote all done every stood single read nodes fresh = record {
   stood = λ n. stood;
   fresh = λ ok m t. record { plan = plan; is = is; holds = fresh m t };
-  once = λ ok. once;
+  once = λ n. single;
+  inputs = λ n. inr (record {
+    plan = plan;
+    is = is;
+    holds = (read, λ asker node stuck d e. absurd (read_not_stuck single (target_asks all) nodes stuck));
+  });
   started = inr (record { plan = plan; is = is; holds = (are, orders) });
   step = step;
   well = well;
   wrote = wrote;
-  why = (record { plan = plan; is = is; holds = all }, done, every);
+  why = (record { plan = plan; is = is; holds = (all, nodes) }, done, every);
   moved = moved_wider (λ p w. record { plan = plan; is = is; holds = w }) (moved_from opened moved);
 }
 
@@ -277,7 +301,8 @@ told_served at told tells faults ended does old new sink sink' bytes bytes' word
 told_served at told tells faults ended does old new sink sink' bytes bytes' words starts stats heard end final (inr none) s =
     subst (λ (e : End NoFault). Served at told tells faults ended does old new sink sink' bytes bytes' words starts stats heard e) (sym none) (record {
       fresh = λ ok. cc ok;
-      once = λ ok. cc ok;
+      once = λ n. absurd (n refl);
+      inputs = λ n. absurd (n refl);
       started = s.started;
       step = s.step;
       well = s.well;

@@ -201,6 +201,17 @@ read_stop (MissingInput by node) first before now asker old new passed input res
     written_is = sym why.1;
   },
 )
-read_stop DiskFault first before now asker old new passed input rest inputs parts reads read later more why = omega arith
+read_stop DiskFault first before now asker old new passed input rest inputs parts reads read later more why = (
+  (let rose = why.0 in omega arith),
+  record {
+    before = passed;
+    input = input;
+    after = rest;
+    inputs_are = parts;
+    reads = reads;
+    there = all_read_on more passed reads read;
+    unseen = why.1;
+  },
+)
 read_stop SinkFault first before now asker old new passed input rest inputs parts reads read later more why = why
 read_stop NoMemory first before now asker old new passed input rest inputs parts reads read later more why = tt

@@ -10,6 +10,7 @@ pub mod Starting
 pub mod Orders
 pub mod Ones
 pub mod Stopping
+pub mod Asking
 pub mod Noting
 pub mod Ending
 pub mod Memories

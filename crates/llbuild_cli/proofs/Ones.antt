@@ -182,6 +182,20 @@ seen_apart c sound unseen looked p i k o = elim (looked.came p i k) [
   | inr n ↦ sound.apart p n.was_asked o
 ]
 
+-- the report shows no more than was seen behind a command that ran
+pub known_ran : {D : Type 0} {at : D → List ℕ → Form → Info} {told : D → Type 0} {tells : D → List Known → Type 0} {does : Does} {v : D} {a b : Seen} (c : Command)
+    → IsSound c → ((p : List ℕ) → IsOutput c p → known a p ≡ None) → AllKnown a → Ran at told tells does c v a b → AllKnown b
+known_ran {a} {b} c sound unseen known ran p i s =
+    let all : AllKnown ran.middle = known_looked known ran.unheard ran.looked in
+    let stays : Knows ran.middle p i → Knows b p i = λ k. ran.others p (λ o. seen_apart c sound unseen ran.looked p i k o) ∙ k in
+    elim s [
+      | inl h ↦ stays (all p i (inl (subst (λ (stats : List StatSeen). In (p, i) (sights_of stats)) ran.stats h)))
+      | inr g ↦ elim (ran.reports p i g) [
+        | inl h ↦ stays (all p i (inr (subst (λ (hs : List Heard). WasHeard hs p i) (sym ran.unheard) h)))
+        | inr o ↦ o.1
+      ]
+    ]
+
 -- what was seen still stands where nothing of it is written
 pub stands_moved : {D : Type 0} {at : D → List ℕ → Form → Info} {told : D → Type 0} {tells : D → List Known → Type 0} {faults : D → ℕ} {written : List ℕ → Type 0} {g v : D} (b : Seen)
     → ((m : List Known) → tells v m → told v) → ((p : List ℕ) (i : Info) → Knows b p i → written p → ⊥) → Moved told tells at faults written g v → SeenStands at tells g b → SeenStands at tells v b

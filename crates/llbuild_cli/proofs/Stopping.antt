@@ -32,7 +32,8 @@ use Rattle.llbuild_cli.specs.declared.report.Heard.{Heard}
 use Rattle.llbuild_cli.specs.declared.report.Start.{Start}
 use Rattle.llbuild_cli.specs.declared.stop.Stop.{Stop}
 use Rattle.llbuild_cli.specs.declared.stop.Stop.TheVariants.{CommandFailed, MissingInput, DiskFault, SinkFault, NoMemory}
-use Rattle.llbuild_cli.specs.Built.{NotAnnounced, Announced, PartAnnounced, CameTo, HeardOne, FailedOne, DoneOne, IsRunStop, IsLastFailed, StopsCommand, StopsTarget, IsBuildStop, IsFinishStop}
+use Rattle.llbuild_cli.specs.Asked.{IsNext, IsStuck}
+use Rattle.llbuild_cli.specs.Built.{NotAnnounced, Announced, PartAnnounced, CameTo, HeardOne, FailedOne, DoneOne, IsRunStop, IsLastFailed, IsBuildStop, IsFinishStop}
 use Rattle.llbuild_cli.specs.Heard.{AreOrders, AllDone, AllEnded, IsDone, IsOrderOfOne, AreInStep, HeardWell, heard_names}
 use Rattle.llbuild_cli.specs.Printed.{IsNextText, line, summary, WrotePart, WroteStopped}
 use Rattle.llbuild_cli.specs.Started.{start_of, starts_of, AreStarts, AllStarted, IsNextStart}
@@ -209,6 +210,19 @@ done_one c heard then done one h i = elim (In-either h heard (one.one.heard ∷ 
 ended_same : (before after : List Start) (heard then : List Heard) → heard_names heard ≡ start_names before → after ≡ before → then ≡ heard → heard_names then ≡ start_names after
 ended_same before after heard then names starts ends = ap heard_names ends ∙ names ∙ ap start_names (sym starts)
 
+-- the command at a marked place is next where those before it were started
+pub is_next : (commands : List Command) (wanted : List Input) (marks : List _) (place : ℕ) (c : Command) (starts : List Start) → AreOrderly commands → AreMarks commands wanted marks
+    → slice_get commands place ≡ Some c → slice_get marks place ≡ Some true → starts ≡ starts_of (take place commands) marks → commands ≡ take place commands ++ c ∷ drop (place + 1) commands
+    → IsNext commands wanted starts c
+is_next commands wanted marks place c starts orderly are at_place marked was parts = record {
+  before = take place commands;
+  after = drop (place + 1) commands;
+  commands_are = parts;
+  needed = (are.each place c at_place).0 marked;
+  started = λ d i n. subst (λ (ss : List Start). In (start_of d) ss) (sym was) (was_started commands wanted marks place d are i n);
+  not_started = λ i. not_started commands marks place c orderly at_place (subst (λ (ss : List Start). In (start_of c) ss) was i);
+}
+
 pub build_stopped : (first disk disk' start sink sink' : ℕ) (shown : List ℕ → Info → Type 0) (commands : List Command) (target : TargetEntry) (marks : List _) (place : ℕ) (c : Command)
     (old new : Option (List ℕ)) (before after : List Start) (heard then : List Heard) (stop : Stop)
     → AreOrderly commands → AreMarks commands target.nodes marks → slice_get commands place ≡ Some c → slice_get marks place ≡ Some true
@@ -227,17 +241,11 @@ build_stopped first disk disk' start sink sink' shown commands target marks plac
   names_both c before after heard then names came.more why.1.one,
 )
 build_stopped first disk disk' start sink sink' shown commands target marks place c old new before after heard then (MissingInput asker node) orderly are at_place marked was parts later slater done names came why = (
-  inl (record {
-    before = take place commands;
-    command = c;
-    after = drop (place + 1) commands;
-    commands_are = parts;
-    needed = (are.each place c at_place).0 marked;
-    started = λ d i n. subst (λ (ss : List Start). In (start_of d) ss) (sym (came.same ∙ was)) (was_started commands target.nodes marks place d are i n);
-    not_started = λ i. not_started commands marks place c orderly at_place (subst (λ (ss : List Start). In (start_of c) ss) (came.same ∙ was) i);
-    named = sym why.0;
+  record {
+    inputs = c.inputs;
+    asks = inl (record { command = c; next = is_next commands target.nodes marks place c after orderly are at_place marked (came.same ∙ was) parts; named = sym why.0; inputs_are = refl });
     first = why.1;
-  }),
+  },
   subst (λ (hs : List Heard). AllDone hs) (sym why.2) done,
   ended_same before after heard then names came.same why.2,
 )
@@ -264,7 +272,7 @@ pub run_stopped : (before now sink sink' : ℕ) (told : Type 0) (at : List ℕ �
     → IsRunStop before now sink sink' (Shows b.stats b.heard) c a.heard b.heard stop
 run_stopped before now sink sink' told at asked c a b (CommandFailed command exit) shown heard looked why = absurd why
 run_stopped before now sink sink' told at asked c a b (MissingInput asker node) shown heard looked why = (why.0, first_missing_on (shown_looked shown heard looked) why.1, heard)
-run_stopped before now sink sink' told at asked c a b DiskFault shown heard looked why = (why, heard)
+run_stopped before now sink sink' told at asked c a b DiskFault shown heard looked why = (why.0, heard)
 run_stopped before now sink sink' told at asked c a b SinkFault shown heard looked why = absurd why
 run_stopped before now sink sink' told at asked c a b NoMemory shown heard looked why = heard
 
@@ -335,7 +343,15 @@ pub finish_stopped : (first disk disk' start sink sink' : ℕ) (mid new : Option
     → IsBuildStop first disk' start sink' (Shows b.stats b.heard) commands target b.starts b.heard stop
 finish_stopped first disk disk' start sink sink' mid new told at asked commands target a b text (CommandFailed command exit) shown heard looked all done ended later slater why = absurd why
 finish_stopped first disk disk' start sink sink' mid new told at asked commands target a b text (MissingInput asker node) shown heard looked all done ended later slater why =
-    (inr (record { started = all; named = sym why.0; first = first_missing_on (shown_looked shown heard looked) why.1 }), done, ended)
+    (
+      record {
+        inputs = target.nodes;
+        asks = inr (record { started = all; named = sym why.0; inputs_are = refl });
+        first = first_missing_on (shown_looked shown heard looked) why.1;
+      },
+      done,
+      ended,
+    )
 finish_stopped first disk disk' start sink sink' mid new told at asked commands target a b text DiskFault shown heard looked all done ended later slater why = (Rose-last first disk disk' later why.0, done)
 finish_stopped first disk disk' start sink sink' mid new told at asked commands target a b text SinkFault shown heard looked all done ended later slater why = (Rose-last start sink sink' slater why.0, done, ended)
 finish_stopped first disk disk' start sink sink' mid new told at asked commands target a b text NoMemory shown heard looked all done ended later slater why = done

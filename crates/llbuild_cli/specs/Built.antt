@@ -14,16 +14,16 @@ use Rattle.manifest_reader.specs.declared.command.Input.{Input}
 use Rattle.manifest_reader.specs.declared.command.TargetEntry.{TargetEntry}
 use Rattle.build_meaning.specs.Commands.{meaning_of}
 use Rattle.build_meaning.specs.Fresh.{Does, Sights, Fresh}
-use Rattle.build_meaning.specs.Needed.{IsNeeded}
 use Rattle.llbuild_cli.specs.declared.report.Heard.{Heard}
 use Rattle.llbuild_cli.specs.declared.report.Outcome.TheVariants.{Failed}
 use Rattle.llbuild_cli.specs.declared.report.Start.{Start}
 use Rattle.llbuild_cli.specs.declared.stop.Stop.{Stop}
 use Rattle.llbuild_cli.specs.declared.stop.Stop.TheVariants.{CommandFailed, MissingInput, DiskFault, SinkFault, NoMemory}
+use Rattle.llbuild_cli.specs.Asked.{IsStuck}
 use Rattle.llbuild_cli.specs.Heard.{IsDone, AllDone, AllEnded}
 use Rattle.llbuild_cli.specs.Ready.{IsOutput}
 use Rattle.llbuild_cli.specs.Reading.{IsFirstMissing}
-use Rattle.llbuild_cli.specs.Started.{start_of, AllStarted}
+use Rattle.llbuild_cli.specs.Started.{start_of}
 use Rattle.llbuild_cli.specs.Texts.{line_of}
 use Rattle.llbuild_cli.specs.Written.{GrewByPart}
 
@@ -85,25 +85,6 @@ IsWrittenBy c starts p = In (start_of c) starts × IsOutput c p
 abbrev pub IsWritten : List Command → List Start → List ℕ → Type 0
 IsWritten commands starts p = (c : Command) × (In c commands × IsWrittenBy c starts p)
 
--- the first command of those that are needed that was not started is this one, and the first of its inputs that is missing
--- is written so
-pub record StopsCommand (commands : List Command) (wanted : List Input) (shown : List ℕ → Info → Type 0) (starts : List Start) (asker node : List ℕ) : Type 0 where
-  pub before : List Command
-  pub command : Command
-  pub after : List Command
-  pub commands_are : commands ≡ before ++ command ∷ after
-  pub needed : IsNeeded commands wanted command
-  pub started : (c : Command) → In c before → IsNeeded commands wanted c → In (start_of c) starts
-  pub not_started : In (start_of command) starts → ⊥
-  pub named : command.name ≡ asker
-  pub first : IsFirstMissing shown command.inputs node
-
--- all commands that are needed were started, and the first of the target's nodes that is missing is written so
-pub record StopsTarget (commands : List Command) (target : TargetEntry) (shown : List ℕ → Info → Type 0) (starts : List Start) (asker node : List ℕ) : Type 0 where
-  pub started : AllStarted commands target.nodes starts
-  pub named : target.name ≡ asker
-  pub first : IsFirstMissing shown target.nodes node
-
 -- the last order that ended is that of this command, which failed so, and those before it succeeded
 pub record IsLastFailed (heard : List Heard) (command : List ℕ) (exit : Exit) : Type 0 where
   pub before : List Heard
@@ -118,7 +99,7 @@ pub record IsLastFailed (heard : List Heard) (command : List ℕ) (exit : Exit) 
 abbrev pub IsBuildStop : ℕ → ℕ → ℕ → ℕ → (List ℕ → Info → Type 0) → List Command → TargetEntry → List Start → List Heard → Stop → Type 0
 IsBuildStop disk disk' sink sink' shown commands target starts heard (CommandFailed command exit) = IsLastFailed heard command exit × AllEnded starts heard
 IsBuildStop disk disk' sink sink' shown commands target starts heard (MissingInput asker node) =
-    (StopsCommand commands target.nodes shown starts asker node ⊎ StopsTarget commands target shown starts asker node) × AllDone heard × AllEnded starts heard
+    IsStuck commands target shown starts asker node × AllDone heard × AllEnded starts heard
 IsBuildStop disk disk' sink sink' shown commands target starts heard DiskFault = Rose disk disk' × AllDone heard
 IsBuildStop disk disk' sink sink' shown commands target starts heard SinkFault = Rose sink sink' × AllDone heard × AllEnded starts heard
 IsBuildStop disk disk' sink sink' shown commands target starts heard NoMemory = AllDone heard

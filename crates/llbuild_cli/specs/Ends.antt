@@ -13,9 +13,11 @@ use Rattle.llbuild_cli.specs.declared.report.Start.{Start}
 use Rattle.llbuild_cli.specs.declared.report.StatSeen.{StatSeen}
 use Rattle.llbuild_cli.specs.declared.words.Job.{Job}
 use Rattle.llbuild_cli.specs.declared.words.UsageFault.TheVariants.{Words}
-use Rattle.llbuild_cli.specs.Built.{StopsCommand, StopsTarget, IsLastFailed, IsWritten}
+use Rattle.llbuild_cli.specs.Asked.{IsStuck, AllReadFirst}
+use Rattle.llbuild_cli.specs.Built.{IsLastFailed, IsWritten}
 use Rattle.llbuild_cli.specs.Heard.{AllDone, AllEnded, AreOrders}
 use Rattle.llbuild_cli.specs.Job.{Plan, IsPlan, IsRefused}
+use Rattle.llbuild_cli.specs.Reading.{WereRead}
 use Rattle.llbuild_cli.specs.Shows.{Shows}
 use Rattle.llbuild_cli.specs.Started.{AllStarted, AreStarts, IsNextStart}
 use Rattle.llbuild_cli.specs.Words.{job_of}
@@ -36,17 +38,18 @@ pub record IsIdle (starts : List Start) (heard : List Heard) : Type 0 where
   pub starts_are : starts ≡ []
   pub heard_are : heard ≡ []
 
--- what each end of a run means: at success every command that is needed was started and succeeded; a failed command is the
--- last whose order ended; a missing node is the first that is missing of the command that was next, or of the target; words
+-- what each end of a run means: at success every command that is needed was started and succeeded, and the target's nodes
+-- were seen and are there; a failed command is the last whose order ended; a missing node is the first that is missing of the
+-- command that was next, or of the target; words
 -- and manifests are refused as they are defined, and then nothing was started; a fault of the disk or the sink raised its
 -- count. Want of memory alone has no cause.
 abbrev pub IsEnd : {D : Type 0} → (D → List ℕ → Form → Info) → (D → Type 0) → (D → List Known → Type 0) → D → D → ℕ → ℕ → ℕ → ℕ → List (List ℕ) → List Start → List StatSeen → List Heard → End NoFault → Type 0
 IsEnd at told tells old new disk disk' sink sink' words starts stats heard ends.Ok =
-    WithPlan at told tells old new words (λ plan. AllStarted plan.manifest.commands plan.target.nodes starts) × AllDone heard × AllEnded starts heard
+    WithPlan at told tells old new words (λ plan. AllStarted plan.manifest.commands plan.target.nodes starts × WereRead (Shows stats heard) plan.target.nodes) × AllDone heard × AllEnded starts heard
 IsEnd at told tells old new disk disk' sink sink' words starts stats heard (ends.CommandFailed command exit) =
     WithPlan at told tells old new words (λ plan. Unit {0}) × IsLastFailed heard command exit × AllEnded starts heard
 IsEnd at told tells old new disk disk' sink sink' words starts stats heard (ends.MissingInput asker node) =
-    WithPlan at told tells old new words (λ plan. StopsCommand plan.manifest.commands plan.target.nodes (Shows stats heard) starts asker node ⊎ StopsTarget plan.manifest.commands plan.target (Shows stats heard) starts asker node) × AllDone heard × AllEnded starts heard
+    WithPlan at told tells old new words (λ plan. IsStuck plan.manifest.commands plan.target (Shows stats heard) starts asker node) × AllDone heard × AllEnded starts heard
 IsEnd at told tells old new disk disk' sink sink' words starts stats heard (ends.Usage fault) = (fault ≡ Words) × (job_of words ≡ None) × IsIdle starts heard
 IsEnd at told tells old new disk disk' sink sink' words starts stats heard (ends.NoFile path) = IsRefused at told tells old new words (ends.NoFile path) × IsIdle starts heard
 IsEnd at told tells old new disk disk' sink sink' words starts stats heard (ends.Manifest error) = IsRefused at told tells old new words (ends.Manifest error) × IsIdle starts heard
@@ -87,3 +90,14 @@ WasWritten at told tells old new words starts p = WithPlan at told tells old new
 -- the start is the next that the plan of the words has
 abbrev pub MayBeNext : {D : Type 0} → (D → List ℕ → Form → Info) → (D → Type 0) → (D → List Known → Type 0) → D → D → List (List ℕ) → List Start → Start → Type 0
 MayBeNext at told tells old new words starts next = WithPlan at told tells old new words (λ plan. IsNextStart plan.manifest.commands plan.target.nodes starts next)
+
+-- where what is next lacks an input while each order ended and succeeded, the run ends so
+abbrev pub EndsAtMissing : Plan → List Start → List StatSeen → List Heard → End NoFault → Type 0
+EndsAtMissing plan starts stats heard end =
+    (asker node : List ℕ) → IsStuck plan.manifest.commands plan.target (Shows stats heard) starts asker node → AllDone heard → AllEnded starts heard → end ≡ ends.MissingInput asker node
+
+-- nothing was done, or the plan of the words was begun: each start and each order is that of a command whose inputs the report
+-- shows, and none is missing; and what lacks an input ends the run
+abbrev pub MetInputs : {D : Type 0} → (D → List ℕ → Form → Info) → (D → Type 0) → (D → List Known → Type 0) → D → D → List (List ℕ) → List Start → List StatSeen → List Heard → End NoFault → Type 0
+MetInputs at told tells old new words starts stats heard end =
+    (IsIdle starts heard × (stats ≡ [])) ⊎ WithPlan at told tells old new words (λ plan. AllReadFirst plan.manifest.commands (Shows stats heard) starts heard × EndsAtMissing plan starts stats heard end)

@@ -17,6 +17,7 @@ pub mod Words
 pub mod Job
 pub mod Written
 pub mod Printed
+pub mod Asked
 pub mod Built
 pub mod Ends
 pub mod Opened

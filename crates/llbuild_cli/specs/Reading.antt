@@ -39,6 +39,22 @@ pub record IsFirstMissing (seen : List ℕ → Info → Type 0) (inputs : List I
   pub missing : SeenAs seen input Missing
   pub written_is : input.written ≡ written
 
+-- nothing was seen of the file of the input
+pub record IsUnseen (seen : List ℕ → Info → Type 0) (input : Input) : Type 0 where
+  pub path : List ℕ
+  pub node : input.node ≡ Path path
+  pub unseen : (info : Info) → seen path info → ⊥
+
+-- the inputs before this one were seen, and are there, and of this one nothing was seen
+pub record IsFirstUnseen (seen : List ℕ → Info → Type 0) (inputs : List Input) : Type 0 where
+  pub before : List Input
+  pub input : Input
+  pub after : List Input
+  pub inputs_are : inputs ≡ before ++ input ∷ after
+  pub reads : List Read
+  pub there : AreRead seen before reads
+  pub unseen : IsUnseen seen input
+
 -- each input was read
 abbrev pub WereRead : (List ℕ → Info → Type 0) → List Input → Type 0
 WereRead seen inputs = (reads : List Read) × AreRead seen inputs reads

@@ -1,5 +1,5 @@
 -- Why a part of a build stops.
-use Rattle.std.specs.Prelude.{◌≡◌, ℕ, List, Result, Ok, Err}
+use Rattle.std.specs.Prelude.{◌≡◌, ◌⊎◌, ℕ, List, Result, Ok, Err}
 use Rattle.file_info.specs.declared.info.Info.{Info}
 use Rattle.file_info.specs.declared.info.Info.TheVariants.{Missing}
 use Rattle.outside.specs.Telling.{Rose}
@@ -10,7 +10,7 @@ use Rattle.llbuild_cli.specs.declared.report.End.{End}
 use Rattle.llbuild_cli.specs.declared.report.End.TheVariants as ends
 use Rattle.llbuild_cli.specs.declared.stop.Stop.{Stop}
 use Rattle.llbuild_cli.specs.declared.stop.Stop.TheVariants.{CommandFailed, MissingInput, DiskFault, SinkFault, NoMemory}
-use Rattle.llbuild_cli.specs.Reading.{SeenAs, IsFirstMissing}
+use Rattle.llbuild_cli.specs.Reading.{SeenAs, IsFirstMissing, IsUnseen, IsFirstUnseen, WereRead}
 
 -- what an error of a disk stops a build with
 abbrev pub stop_of : DiskError → Stop
@@ -55,18 +55,28 @@ IsSinkStop before now DiskFault = ⊥
 IsSinkStop before now SinkFault = Rose before now
 IsSinkStop before now NoMemory = Unit {0}
 
--- the disk failed, no memory was left, or the input is missing
+-- the disk failed at the input, of which nothing was seen; no memory was left; or the input is missing
 abbrev pub IsReadStop : ℕ → ℕ → List ℕ → (List ℕ → Info → Type 0) → Input → Stop → Type 0
 IsReadStop before now asker seen input (CommandFailed command exit) = ⊥
 IsReadStop before now asker seen input (MissingInput by node) = (by ≡ asker) × (node ≡ input.written) × SeenAs seen input Missing
-IsReadStop before now asker seen input DiskFault = Rose before now
+IsReadStop before now asker seen input DiskFault = Rose before now × IsUnseen seen input
 IsReadStop before now asker seen input SinkFault = ⊥
 IsReadStop before now asker seen input NoMemory = Unit {0}
 
--- the disk failed, no memory was left, or one of the inputs is missing, and this is the first
+-- the disk failed at the first input of which nothing was seen; no memory was left; or one of the inputs is missing, and this is
+-- the first
 abbrev pub IsInputStop : ℕ → ℕ → List ℕ → (List ℕ → Info → Type 0) → List Input → Stop → Type 0
 IsInputStop before now asker seen inputs (CommandFailed command exit) = ⊥
 IsInputStop before now asker seen inputs (MissingInput by node) = (by ≡ asker) × IsFirstMissing seen inputs node
-IsInputStop before now asker seen inputs DiskFault = Rose before now
+IsInputStop before now asker seen inputs DiskFault = Rose before now × IsFirstUnseen seen inputs
 IsInputStop before now asker seen inputs SinkFault = ⊥
 IsInputStop before now asker seen inputs NoMemory = Unit {0}
+
+-- how far the inputs were looked at where a fault stopped what asks for them: a fault of the disk came at the first of which
+-- nothing was seen, or when it was started; before a fault of the sink all were read
+abbrev pub AskedBefore : (List ℕ → Info → Type 0) → List Input → Type 0 → Stop → Type 0
+AskedBefore seen inputs started (CommandFailed command exit) = Unit {0}
+AskedBefore seen inputs started (MissingInput asker node) = Unit {0}
+AskedBefore seen inputs started DiskFault = IsFirstUnseen seen inputs ⊎ started
+AskedBefore seen inputs started SinkFault = WereRead seen inputs
+AskedBefore seen inputs started NoMemory = Unit {0}

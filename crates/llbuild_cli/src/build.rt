@@ -1,10 +1,11 @@
 //! A serial build: the commands of the target's reach, one after the other, in the order of the manifest.
 ghost use Rattle.std.specs.Prelude.{◌≡◌, ℕ, ◌≤◌, ◌+◌, [], ◌++◌, None, List as Items, length, map, IfErr, OnOk};
 ghost use Rattle.file_info.specs.Content.{Known};
+ghost use Rattle.file_info.specs.Lists.{In};
 ghost use Rattle.outside.specs.Telling.{Grew};
 ghost use Rattle.manifest_reader.specs.Served.{IsManifest, AreFileInputs};
 ghost use Rattle.build_meaning.specs.Needed.{AreMarks};
-ghost use Rattle.build_meaning.specs.Unique.{SawOnce};
+ghost use Rattle.llbuild_cli.specs.Asked.{ReadFirst, AllReadFirst, StopsAtMissing};
 ghost use Rattle.llbuild_cli.specs.Built.{Announced, CameTo, DoneOne, IsRunStop, IsBuildStop, IsWrittenBy, IsWritten, AreFresh, IsFinishStop};
 ghost use Rattle.llbuild_cli.specs.Heard.{HeardWell, AreOrders, AllDone, AllEnded, AreInStep, heard_names};
 ghost use Rattle.llbuild_cli.specs.Looked.{Looked, SameRuns};
@@ -13,10 +14,10 @@ ghost use Rattle.llbuild_cli.specs.Printed.{WroteStopped};
 ghost use Rattle.llbuild_cli.specs.Ready.{AllKnown, AllShown, IsInput, IsSound, IsOutput, SeenStands, Ran};
 ghost use Rattle.llbuild_cli.specs.Reading.{WereRead};
 ghost use Rattle.llbuild_cli.specs.Seen.{IsUnused, known, Knows, sights_of};
-ghost use Rattle.llbuild_cli.specs.Shows.{Shows, ShownStands};
+ghost use Rattle.llbuild_cli.specs.Shows.{Shows, ShownStands, IsSingle};
 ghost use Rattle.llbuild_cli.specs.Stands.{Stands};
-ghost use Rattle.llbuild_cli.specs.Started.{AreStarts, AllStarted, IsNextStart, starts_of};
-ghost use Rattle.llbuild_cli.specs.Stops.{ButForMemory};
+ghost use Rattle.llbuild_cli.specs.Started.{AreStarts, AllStarted, IsNextStart, start_of, starts_of};
+ghost use Rattle.llbuild_cli.specs.Stops.{ButForMemory, AskedBefore};
 ghost use Rattle.llbuild_cli.specs.Texts.{lines_of, summary_text};
 
 use crate::announce::announce;
@@ -62,6 +63,8 @@ fn run_one<L: Law, W: World<L>, O: Sink>(
     ensures came { IfErr result (CameTo command.now (O.bytes out.old) (O.bytes out.new) seen.old.starts seen.new.starts) }
     ensures stop { IfErr result (IsRunStop (W.faults world.old) (W.faults world.new) (O.faults out.old) (O.faults out.new) (Shows seen.new.stats seen.new.heard) command.now seen.old.heard seen.new.heard) }
     ensures heard { HeardWell W.tells W.ended L.does world.new seen.new.heard }
+    ensures read { ButForMemory result (ReadFirst command.now (Shows seen.old.stats seen.old.heard) (Shows seen.new.stats seen.new.heard) seen.old.starts seen.new.starts seen.old.heard seen.new.heard) }
+    ensures asked { IfErr result (AskedBefore (Shows seen.new.stats seen.new.heard) command.now.inputs (In (start_of command.now) seen.new.starts)) }
 {
     let reads = gather(alloc, &command.name, &command.inputs, world, seen)?;
     let ticket = announce(alloc, command, out, &mut seen.starts)?;
@@ -100,6 +103,9 @@ fn run_all<L: Law, W: World<L>, O: Sink>(
     ensures heard { HeardWell W.tells W.ended L.does world.new seen.new.heard }
     ensures part { IfErr result (WroteStopped (IsNextStart manifest.now.commands target.now.nodes seen.new.starts) (O.bytes out.old) (O.bytes out.new) seen.new.starts) }
     ensures stop { IfErr result (IsBuildStop (W.faults world.old) (W.faults world.new) (O.faults out.old) (O.faults out.new) (Shows seen.new.stats seen.new.heard) manifest.now.commands target.now seen.new.starts seen.new.heard) }
+    ensures read { ButForMemory result (AllReadFirst manifest.now.commands (Shows seen.new.stats seen.new.heard) seen.new.starts seen.new.heard) }
+    ensures single { ButForMemory result (IsSingle (Shows seen.new.stats seen.new.heard)) }
+    ensures missing { IfErr result (StopsAtMissing manifest.now.commands target.now (Shows seen.new.stats seen.new.heard) seen.new.starts seen.new.heard) }
 {
     'commands: for (place, is_marked) in marks.iter().enumerate() {
         if !*is_marked {
@@ -132,6 +138,7 @@ fn finish<L: Law, W: World<L>, O: Sink>(
     ensures later { O.faults out.old ≤ O.faults out.new }
     ensures orders { W.orders world.new ≡ W.orders world.old }
     ensures begins { W.begins world.new ≡ W.begins world.old }
+    ensures asked { IfErr result (AskedBefore (Knows seen.new) target.now.nodes ⊥) }
 {
     let _reads = gather(alloc, &target.name, &target.nodes, world, seen)?;
     let text = summary(alloc, seen.starts.len() as u64)?;
@@ -158,7 +165,9 @@ pub fn build<L: Law, W: World<L>, O: Sink>(
     ensures later { O.faults out.old ≤ O.faults out.new }
     ensures begins { W.begins world.new ≤ W.begins world.old + length seen.new.starts }
     ensures fresh { (m : Items Known) → W.tells world.new m → OnOk result (AreFresh L.does m (W.at world.new) manifest.now.commands (sights_of seen.new.stats) target.now.nodes) }
-    ensures once { OnOk result (SawOnce (sights_of seen.new.stats)) }
+    ensures single { ButForMemory result (IsSingle (Shows seen.new.stats seen.new.heard)) }
+    ensures read { ButForMemory result (AllReadFirst manifest.now.commands (Shows seen.new.stats seen.new.heard) seen.new.starts seen.new.heard) }
+    ensures nodes { OnOk result (WereRead (Shows seen.new.stats seen.new.heard) target.now.nodes) }
     ensures all { OnOk result (AllStarted manifest.now.commands target.now.nodes seen.new.starts) }
     ensures starts { AreStarts manifest.now.commands target.now.nodes seen.new.starts }
     ensures step { AreInStep seen.new.starts seen.new.heard }
@@ -170,6 +179,7 @@ pub fn build<L: Law, W: World<L>, O: Sink>(
     ensures wrote { OnOk result (Grew (O.bytes out.old) (O.bytes out.new) (lines_of seen.new.starts ++ summary_text (length seen.new.starts))) }
     ensures part { IfErr result (WroteStopped (IsNextStart manifest.now.commands target.now.nodes seen.new.starts) (O.bytes out.old) (O.bytes out.new) seen.new.starts) }
     ensures stop { IfErr result (IsBuildStop (W.faults world.old) (W.faults world.new) (O.faults out.old) (O.faults out.new) (Shows seen.new.stats seen.new.heard) manifest.now.commands target.now seen.new.starts seen.new.heard) }
+    ensures missing { IfErr result (StopsAtMissing manifest.now.commands target.now (Shows seen.new.stats seen.new.heard) seen.new.starts seen.new.heard) }
 {
     let marks = reach(alloc, manifest, &target.nodes)?;
     run_all(alloc, manifest, target, marks.as_slice(), world, out, seen)?;

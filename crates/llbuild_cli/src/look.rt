@@ -1,5 +1,6 @@
 //! What stands at the inputs of a command.
 ghost use Rattle.std.specs.Prelude.{◌≡◌, ◌∷◌, [], IfOk, IfErr};
+ghost use Rattle.file_info.specs.declared.info.Info.{Info as InfoOf};
 ghost use Rattle.manifest_reader.specs.Served.{IsFileInput, AreFileInputs};
 ghost use Rattle.llbuild_cli.specs.Seen.{Knows};
 ghost use Rattle.llbuild_cli.specs.Looked.{Looked, SameRuns};
@@ -33,6 +34,7 @@ fn look<L: Law, W: World<L>>(
     ensures runs { SameRuns seen.old seen.new }
     ensures info { IfOk result (λ info. Knows seen.new path.now info) }
     ensures stop { IfErr result (IsDiskStop (W.faults world.old) (W.faults world.new)) }
+    ensures unseen { IfErr result (λ stop. stop ≡ Stop.DiskFault → (info : InfoOf) → Knows seen.new path.now info → ⊥) }
     ensures moved { Moved W.told W.tells W.at W.faults (λ p. ⊥) world.old world.new }
     ensures orders { W.orders world.new ≡ W.orders world.old }
     ensures begins { W.begins world.new ≡ W.begins world.old }

@@ -3,16 +3,15 @@ ghost use Rattle.std.specs.Prelude.{◌≡◌, ◌⊎◌, ◌≤◌, ◌+◌, []
 ghost use Rattle.file_info.specs.Content.{Known, content};
 ghost use Rattle.file_info.specs.Lists.{In};
 ghost use Rattle.outside.specs.Reading.{bytes_of};
-ghost use Rattle.build_meaning.specs.Unique.{SawOnce};
 ghost use Rattle.llbuild_cli.specs.Built.{AreFresh};
-ghost use Rattle.llbuild_cli.specs.Ends.{IsEnd, WithPlan, StartedOnly, WasWritten, MayBeNext, end_in};
+ghost use Rattle.llbuild_cli.specs.Ends.{IsEnd, WithPlan, StartedOnly, WasWritten, MayBeNext, MetInputs, end_in};
 ghost use Rattle.llbuild_cli.specs.Heard.{HeardWell, AreInStep};
 ghost use Rattle.llbuild_cli.specs.Job.{plan_of, manifest_max};
 ghost use Rattle.llbuild_cli.specs.Moved.{Moved};
 ghost use Rattle.llbuild_cli.specs.Printed.{Wrote};
 ghost use Rattle.llbuild_cli.specs.Seen.{sights_of, IsUnused};
 ghost use Rattle.llbuild_cli.specs.Serving.{Served};
-ghost use Rattle.llbuild_cli.specs.Shows.{ShownStands};
+ghost use Rattle.llbuild_cli.specs.Shows.{Shows, ShownStands, IsSingle};
 ghost use Rattle.llbuild_cli.specs.Status.{status_of};
 ghost use Rattle.llbuild_cli.specs.Texts.{failure_text};
 ghost use Rattle.llbuild_cli.specs.Words.{job_of};
@@ -106,7 +105,8 @@ pub fn run_alone<L: Law, W: World<L>, O: Sink, E: Sink>(
     requires { W.orders world.old ≡ [] }
     ensures fresh { result.report.end ≡ End.Ok → (m : Items Known) → W.tells world.new m → WithPlan W.at W.told W.tells world.old world.new (map string_bytes words.now)
         (λ plan. AreFresh L.does m (W.at world.new) plan.manifest.commands (sights_of result.report.stats) plan.target.nodes) }
-    ensures once { result.report.end ≡ End.Ok → SawOnce (sights_of result.report.stats) }
+    ensures once { (result.report.end ≡ End.NoMemory → ⊥) → IsSingle (Shows result.report.stats result.report.heard) }
+    ensures inputs { (result.report.end ≡ End.NoMemory → ⊥) → MetInputs W.at W.told W.tells world.old world.new (map string_bytes words.now) result.report.starts result.report.stats result.report.heard result.report.end }
     ensures started { StartedOnly W.at W.told W.tells world.old world.new (map string_bytes words.now) result.report.starts result.report.heard }
     ensures begins { W.begins world.new ≤ W.begins world.old + length result.report.starts }
     ensures none { W.orders world.new ≡ [] }

@@ -9,11 +9,12 @@ use Rattle.llbuild_cli.specs.declared.report.Start.{Start}
 use Rattle.llbuild_cli.specs.Built.{IsWritten}
 use Rattle.llbuild_cli.specs.Shows.{Shows}
 use Rattle.llbuild_cli.specs.Started.{start_of, starts_of, AreStarts}
-use Rattle.llbuild_cli.proofs.Going.{if_err, but_err, moved_both, moved_wider}
+use Rattle.llbuild_cli.proofs.Going.{if_err, but_err, unless_on, moved_both, moved_wider}
 use Rattle.llbuild_cli.proofs.Needs.{made_once, inputs_settled, outputs_unseen}
 use Rattle.llbuild_cli.proofs.Runs.{made_here, stands_ran, stands_skip, stands_shown}
 use Rattle.llbuild_cli.proofs.Starting.{starts_more, starts_skip, are_starts, not_started}
-use Rattle.llbuild_cli.proofs.Stopping.{wrote_more, wrote_stopped, came_starts, starts_stopped, step_stopped, names_both, orders_one, orders_stopped, done_one, build_stopped, starts_grow, even_names, no_orders}
+use Rattle.llbuild_cli.proofs.Stopping.{wrote_more, wrote_stopped, came_starts, starts_stopped, step_stopped, names_both, orders_one, orders_stopped, done_one, build_stopped, starts_grow, even_names, is_next, no_orders}
+use Rattle.llbuild_cli.proofs.Asking.{first_more, run_missing, single_known}
 use Rattle.llbuild_cli.proofs.build.run_all.Goals as goal
 
 pub run_one-requires-clause-sound : goal.run_one-requires-clause-sound
@@ -235,6 +236,7 @@ commands-preserved g c =
       done = done_one cmd heard then old.done done;
       names = names_both cmd before after heard then old.names announced.more done.one;
       orders = orders_one commands cmd heard then named old.orders done.one;
+      read = first_more named c.in_ok-run_one.ensures.read old.read;
       heard = c.run_one.ensures.heard;
       moved = moved_both
           (moved_wider (λ p w. (w.0, (w.1.0, (starts_grow before after (start_of cmd) (start_of w.0) grows w.1.1.0, w.1.1.1)))) old.moved)
@@ -258,6 +260,7 @@ commands-preserved-then-not-is_marked g c =
       done = old.done;
       names = old.names;
       orders = old.orders;
+      read = old.read;
       heard = old.heard;
       moved = old.moved;
       none = old.none;
@@ -278,3 +281,52 @@ returns-clause-stood g c = stands_shown c.commands.invariant.stands
 
 pub run_one-requires-clause-even : goal.run_one-requires-clause-even
 run_one-requires-clause-even g c κs within = even_names c.commands.seen.starts c.commands.seen.heard c.commands.invariant.names
+
+pub returns-in_err-run_one-clause-read : goal.returns-in_err-run_one-clause-read
+returns-in_err-run_one-clause-read g c =
+    let commands = c.args.manifest.now.commands in
+    let cmd = c.in-Some.command.now in
+    let named : In cmd commands = In-get commands c.commands.place cmd (sym c.in-Some.ensures.value) in
+    but_err c.from_residual.result c.in_err-run_one.field-0.0 _ (search rules)
+    (unless_on c.in_err-run_one.field-0.0 (λ one. first_more named one c.commands.invariant.read) c.in_err-run_one.ensures.read)
+
+pub returns-in_err-run_one-clause-single : goal.returns-in_err-run_one-clause-single
+returns-in_err-run_one-clause-single g c =
+    but_err c.from_residual.result c.in_err-run_one.field-0.0 _ (search rules)
+    (unless_on c.in_err-run_one.field-0.0 (λ one. one.single) c.in_err-run_one.ensures.read)
+
+pub returns-in_err-run_one-clause-missing : goal.returns-in_err-run_one-clause-missing
+returns-in_err-run_one-clause-missing g c =
+    let m = c.args.manifest.now in
+    let commands = m.commands in
+    let target = c.args.target.now in
+    let marks = c.args.marks.now in
+    let place = c.commands.place in
+    let cmd = c.in-Some.command.now in
+    let old = c.commands.invariant in
+    let rule : AreOrderly commands = orderly m c.requires.manifest in
+    let at_place : slice_get commands place ≡ Some cmd = sym c.in-Some.ensures.value in
+    let marked : slice_get marks place ≡ Some true = get-read marks place false true c.if-not-is_marked.false c.commands-test.true in
+    let parts = take-drop-get commands place cmd at_place in
+    let stop = c.in_err-run_one.field-0.0 in
+    let came = c.in_err-run_one.ensures.came in
+    let why = c.in_err-run_one.ensures.stop in
+    let before = c.commands.seen.starts in
+    let after = c.run_one.new.seen.starts in
+    let heard = c.commands.seen.heard in
+    let then = c.run_one.new.seen.heard in
+    let bytes = g.O.Sink.bytes in
+    let faults = g.W.Disk.faults in
+    let sink = g.O.Sink.faults in
+    let shown = Shows c.run_one.new.seen.stats c.run_one.new.seen.heard in
+    if_err c.from_residual.result stop _ (search rules)
+    (run_missing (faults c.commands.world) (faults c.run_one.new.world) (sink c.commands.out) (sink c.run_one.new.out) (faults c.args.world.now) (faults c.run_one.new.world) (sink c.args.out.now) (sink c.run_one.new.out)
+    commands target cmd shown (bytes c.commands.out) (bytes c.run_one.new.out) before after heard then stop
+    (λ same. is_next commands target.nodes marks place cmd after rule c.requires.marks at_place marked (same ∙ old.starts) parts) old.names
+    (unless_on stop (λ one. one.single) c.in_err-run_one.ensures.read) came why c.in_err-run_one.ensures.asked
+    (build_stopped (faults c.args.world.now) (faults c.commands.world) (faults c.run_one.new.world) (sink c.args.out.now) (sink c.commands.out) (sink c.run_one.new.out) shown commands target marks place cmd
+    (bytes c.commands.out) (bytes c.run_one.new.out) before after heard then stop rule c.requires.marks at_place marked old.starts parts
+    old.moved.later old.later old.done old.names came why))
+
+pub returns-clause-single : goal.returns-clause-single
+returns-clause-single g c = single_known c.commands.seen c.commands.invariant.stands.reported

@@ -1,8 +1,10 @@
 use Rattle.std.proofs.Common.{◌≡◌, ◌≤◌, ◌+◌, [], take, length}
 use Rattle.outside.specs.Telling.{Grew}
+use Rattle.llbuild_cli.specs.Asked.{AllReadFirst}
 use Rattle.llbuild_cli.specs.Built.{IsWritten}
 use Rattle.llbuild_cli.specs.Heard.{HeardWell, AreOrders, AllDone, heard_names}
 use Rattle.llbuild_cli.specs.Moved.{Moved}
+use Rattle.llbuild_cli.specs.Shows.{Shows}
 use Rattle.llbuild_cli.specs.Stands.{Stands}
 use Rattle.llbuild_cli.specs.Started.{starts_of}
 use Rattle.llbuild_cli.specs.Texts.{lines_of}
@@ -17,6 +19,7 @@ invariant-commands g l = record {
   done : AllDone l.seen.heard;
   names : heard_names l.seen.heard ≡ start_names l.seen.starts;
   orders : AreOrders l.manifest.commands l.seen.heard;
+  read : AllReadFirst l.manifest.commands (Shows l.seen.stats l.seen.heard) l.seen.starts l.seen.heard;
   heard : HeardWell g.W.Disk.tells g.W.World.ended g.L.Law.does l.world l.seen.heard;
   moved : Moved g.W.Disk.told g.W.Disk.tells g.W.Disk.at g.W.Disk.faults (IsWritten l.manifest.commands l.seen.starts) l.fn.world l.world;
   none : g.W.Disk.orders l.world ≡ [];

@@ -1,7 +1,7 @@
 use Rattle.std.proofs.Common.{rules, ◌≡◌, ◌≤◌, ◌∙◌, ◌++◌, ◌∷◌, ◌+◌, [], ℕ, List, length, refl, sym, ap, subst, arith, inl, inr}
 use Rattle.file_info.specs.Content.{Known}
 use Rattle.file_info.specs.Lists.{In}
-use Rattle.build_meaning.proofs.Ins.{In-right}
+use Rattle.build_meaning.proofs.Ins.{In-left, In-right, In-either, In-one}
 use Rattle.llbuild_cli.specs.declared.report.Start.{Start}
 use Rattle.llbuild_cli.specs.Started.{start_of}
 use Rattle.llbuild_cli.specs.declared.report.Heard.{Heard}
@@ -14,8 +14,10 @@ use Rattle.llbuild_cli.specs.Moved.{Moved}
 use Rattle.llbuild_cli.specs.Shows.{Shows}
 use Rattle.llbuild_cli.proofs.Going.{if_err, but_err, but_always, unless_on, moved_both, moved_wider}
 use Rattle.llbuild_cli.proofs.Inputs.{reads_fit}
-use Rattle.llbuild_cli.proofs.Ones.{seen_stands_looked, known_looked, shown_stands, seen_apart, stands_moved, ran_shown, reads_stand, ran_one, did_on, heard_on, heard_more, lawful_done}
-use Rattle.llbuild_cli.proofs.Stopping.{run_stopped, settle_stopped, heard_stopped, settle_shows}
+use Rattle.llbuild_cli.proofs.Ones.{seen_stands_looked, known_looked, shown_stands, seen_apart, stands_moved, ran_shown, known_ran, reads_stand, ran_one, did_on, heard_on, heard_more, lawful_done}
+use Rattle.llbuild_cli.proofs.Stopping.{run_stopped, settle_stopped, heard_stopped, settle_shows, shown_looked}
+use Rattle.llbuild_cli.proofs.Asking.{asked_on, input_asked, disk_asked, sink_asked, settle_asked, first_looked, first_started, single_known, single_less, settle_orders, settle_kept, order_reads}
+use Rattle.llbuild_cli.proofs.Inputs.{all_read_on}
 use Rattle.llbuild_cli.proofs.build.run_one.Goals as goal
 
 pub returns-in_err-reads-clause-stop : goal.returns-in_err-reads-clause-stop
@@ -190,3 +192,113 @@ returns-clause-moved g c =
     let still : In (start_of cmd) c.settle.new.seen.starts = subst (λ (ss : List Start). In (start_of cmd) ss) (sym c.settle.ensures.starts) started in
     moved_both (moved_wider (λ p n. absurd n) c.gather.ensures.moved)
     (moved_both (moved_wider (λ p o. (still, o)) c.execute.ensures.moved) (moved_wider (λ p n. absurd n) c.settle.ensures.moved))
+
+pub returns-in_err-reads-clause-read : goal.returns-in_err-reads-clause-read
+returns-in_err-reads-clause-read g c =
+    but_err c.from_residual.result c.in_err-reads.field-0.0 _ (search rules)
+    (unless_on c.in_err-reads.field-0.0
+    (λ looked. first_looked c.args.command.now c.gather.new.seen.starts c.requires.known c.gather.ensures.runs.starts c.gather.ensures.runs.heard looked)
+    c.in_err-reads.ensures.looked)
+
+pub returns-in_err-reads-clause-asked : goal.returns-in_err-reads-clause-asked
+returns-in_err-reads-clause-asked g c =
+    let stop = c.in_err-reads.field-0.0 in
+    let heard = c.gather.ensures.runs.heard in
+    let looked = c.in_err-reads.ensures.looked in
+    if_err c.from_residual.result stop _ (search rules)
+    (asked_on (Knows c.gather.new.seen) (Shows c.gather.new.seen.stats c.gather.new.seen.heard) c.args.command.now.inputs ⊥ (In (start_of c.args.command.now) c.gather.new.seen.starts) stop (unless_on stop (λ l. shown_looked c.requires.shown heard l) looked) (unless_on stop (λ l. known_looked c.requires.known heard l) looked) (λ n. absurd n)
+    (input_asked (g.W.Disk.faults c.args.world.now) (g.W.Disk.faults c.gather.new.world) c.args.command.now.name (Knows c.gather.new.seen) c.args.command.now.inputs ⊥ stop c.in_err-reads.ensures.stop))
+
+pub returns-in_err-ticket-clause-read : goal.returns-in_err-ticket-clause-read
+returns-in_err-ticket-clause-read g c =
+    but_always c.from_residual-in_err-ticket.result _
+    (first_looked c.args.command.now c.announce.new.starts c.requires.known (c.in_err-ticket.ensures.same ∙ c.gather.ensures.runs.starts) c.gather.ensures.runs.heard c.in_ok-reads.ensures.looked)
+
+pub returns-in_err-ticket-clause-asked : goal.returns-in_err-ticket-clause-asked
+returns-in_err-ticket-clause-asked g c =
+    let stop = c.in_err-ticket.field-0.0 in
+    let inputs = c.args.command.now.inputs in
+    let reads = c.in_ok-reads.reads in
+    if_err c.from_residual-in_err-ticket.result stop _ (search rules)
+    (sink_asked (g.O.Sink.faults c.args.out.now) (g.O.Sink.faults c.announce.new.out) (Shows c.gather.new.seen.stats c.gather.new.seen.heard) inputs _ stop c.in_err-ticket.ensures.stop
+    (reads, all_read_on (shown_looked c.requires.shown c.gather.ensures.runs.heard c.in_ok-reads.ensures.looked) inputs reads c.in_ok-reads.ensures.reads))
+
+pub returns-in_err-ended-clause-read : goal.returns-in_err-ended-clause-read
+returns-in_err-ended-clause-read g c =
+    let cmd = c.args.command.now in
+    let looked = c.in_ok-reads.ensures.looked in
+    let heard = c.gather.ensures.runs.heard in
+    let more : c.announce.new.starts ≡ c.args.seen.now.starts ++ start_of cmd ∷ [] =
+    c.in_ok-ticket.ensures.noted ∙ ap (λ (ss : List Start). ss ++ start_of cmd ∷ []) c.gather.ensures.runs.starts in
+    but_always c.from_residual-in_err-ended.result _
+    (first_started cmd c.in_ok-reads.reads c.announce.new.starts c.gather.new.seen.stats c.gather.new.seen.heard c.requires.shown heard looked c.in_ok-reads.ensures.reads refl more
+    (λ h i. i) (λ h i. inl i) (single_known c.gather.new.seen (known_looked c.requires.known heard looked)))
+
+pub returns-in_err-ended-clause-asked : goal.returns-in_err-ended-clause-asked
+returns-in_err-ended-clause-asked g c =
+    let cmd = c.args.command.now in
+    let stop = c.in_err-ended.field-0.0 in
+    let more = c.in_ok-ticket.ensures.noted in
+    let started : In (start_of cmd) c.announce.new.starts = subst (λ (ss : List Start). In (start_of cmd) ss) (sym more) (In-right (start_of cmd) c.gather.new.seen.starts (start_of cmd ∷ []) (inl refl)) in
+    if_err c.from_residual-in_err-ended.result stop _ (search rules)
+    (disk_asked (g.W.Disk.faults c.gather.new.world) (g.W.Disk.faults c.execute.new.world) _ cmd.inputs _ stop c.in_err-ended.ensures.stop started)
+
+pub returns-in_err-settle-clause-read : goal.returns-in_err-settle-clause-read
+returns-in_err-settle-clause-read g c =
+    let cmd = c.args.command.now in
+    let reads = c.in_ok-reads.reads in
+    let ended = c.in_ok-ended.ended in
+    let looked = c.in_ok-reads.ensures.looked in
+    let heard = c.gather.ensures.runs.heard in
+    let stop = c.in_err-settle.field-0.0 in
+    let before = g.W.Disk.faults c.execute.new.world in
+    let now = g.W.Disk.faults c.settle.new.world in
+    let noted = c.gather.new.seen.heard in
+    let then = c.settle.new.seen.heard in
+    let why = c.in_err-settle.ensures.stop in
+    let more : c.settle.new.seen.starts ≡ c.args.seen.now.starts ++ start_of cmd ∷ [] =
+    c.settle.ensures.starts ∙ c.in_ok-ticket.ensures.noted ∙ ap (λ (ss : List Start). ss ++ start_of cmd ∷ []) c.gather.ensures.runs.starts in
+    but_always c.from_residual-in_err-settle.result _
+    (first_started cmd reads c.settle.new.seen.starts c.settle.new.seen.stats then c.requires.shown heard looked c.in_ok-reads.ensures.reads c.settle.ensures.stats more
+    (settle_kept before now ended noted then stop why)
+    (λ h i. order_reads c.gather.new.seen.heard cmd c.in_ok-ticket.ticket reads ended.order h c.in_ok-ended.ensures.order (settle_orders before now ended noted then stop why h i))
+    (single_less (λ p i s. elim s [
+      | inl k ↦ inl (subst (λ (stats : List StatSeen). In (p, i) (sights_of stats)) c.settle.ensures.stats k)
+      | inr w ↦ inr (settle_shows before now ended noted then stop why p i w)
+    ]) (single_known c.gather.new.seen (known_looked c.requires.known heard looked))))
+
+pub returns-in_err-settle-clause-asked : goal.returns-in_err-settle-clause-asked
+returns-in_err-settle-clause-asked g c =
+    let cmd = c.args.command.now in
+    let stop = c.in_err-settle.field-0.0 in
+    let more = c.in_ok-ticket.ensures.noted in
+    let started : In (start_of cmd) c.announce.new.starts = subst (λ (ss : List Start). In (start_of cmd) ss) (sym more) (In-right (start_of cmd) c.gather.new.seen.starts (start_of cmd ∷ []) (inl refl)) in
+    let still : In (start_of cmd) c.settle.new.seen.starts = subst (λ (ss : List Start). In (start_of cmd) ss) (sym c.settle.ensures.starts) started in
+    if_err c.from_residual-in_err-settle.result stop _ (search rules)
+    (settle_asked (g.W.Disk.faults c.execute.new.world) (g.W.Disk.faults c.settle.new.world) c.in_ok-ended.ended c.gather.new.seen.heard c.settle.new.seen.heard _ cmd.inputs _ stop c.in_err-settle.ensures.stop still)
+
+pub returns-clause-read : goal.returns-clause-read
+returns-clause-read g c =
+    let cmd = c.args.command.now in
+    let reads = c.in_ok-reads.reads in
+    let looked = c.in_ok-reads.ensures.looked in
+    let heard = c.gather.ensures.runs.heard in
+    let ended = c.in_ok-ended.ended in
+    let done = c.in_ok-settle.ensures.done in
+    let stands : SeenStands g.W.Disk.at g.W.Disk.tells c.gather.new.world c.gather.new.seen =
+    seen_stands_looked (g.met.W.Disk.tells_infos c.gather.new.world) c.requires.stands c.gather.ensures.moved looked in
+    let ran : Ran g.W.Disk.at g.W.Disk.told g.W.Disk.tells g.L.Law.does cmd c.settle.new.world c.args.seen.now c.settle.new.seen =
+    ran_one cmd reads ended.order (g.met.W.Disk.tells_infos c.settle.new.world) c.requires.sound looked heard (λ p. refl) refl refl
+    c.in_ok-reads.ensures.reads c.execute.ensures.moved c.settle.ensures.moved c.in_ok-ended.ensures.order.outputs_are done
+    (λ m t. c.in_ok-ended.ensures.does m t c.in_ok-settle.ensures.exit (reads_stand g.W.Disk.at g.W.Disk.tells c.gather.new.world c.gather.new.seen cmd reads stands c.in_ok-reads.ensures.reads m (c.execute.ensures.moved.keeps.contents m t))) in
+    let last : Heard = record { order = ended.order; outcome = Done [] done.infos } in
+    let noted = c.gather.new.seen.heard in
+    let more : c.settle.new.seen.starts ≡ c.args.seen.now.starts ++ start_of cmd ∷ [] =
+    c.settle.ensures.starts ∙ c.in_ok-ticket.ensures.noted ∙ ap (λ (ss : List Start). ss ++ start_of cmd ∷ []) c.gather.ensures.runs.starts in
+    first_started cmd reads c.settle.new.seen.starts c.settle.new.seen.stats c.settle.new.seen.heard c.requires.shown heard looked c.in_ok-reads.ensures.reads c.settle.ensures.stats more
+    (λ h i. subst (λ (hs : List Heard). In h hs) (sym done.heard_is) (In-left h noted (last ∷ []) i))
+    (λ h i. order_reads c.gather.new.seen.heard cmd c.in_ok-ticket.ticket reads ended.order h c.in_ok-ended.ensures.order (elim (In-either h noted (last ∷ []) (subst (λ (hs : List Heard). In h hs) done.heard_is i)) [
+      | inl k ↦ inl k
+      | inr k ↦ inr (ap (λ (x : Heard). x.order) (In-one k))
+    ]))
+    (single_known c.settle.new.seen (known_ran cmd c.requires.sound c.requires.unseen c.requires.known ran))
