@@ -38,26 +38,31 @@ pub record IsIdle (starts : List Start) (heard : List Heard) : Type 0 where
   pub starts_are : starts ≡ []
   pub heard_are : heard ≡ []
 
--- what each end of a run means: at success every command that is needed was started and succeeded, and the target's nodes
+-- what each end of a run means, by what is planned and what is refused: at success every command that is needed was started and succeeded, and the target's nodes
 -- were seen and are there; a failed command is the last whose order ended; a missing node is the first that is missing of the
 -- command that was next, or of the target; words
 -- and manifests are refused as they are defined, and then nothing was started; a fault of the disk or the sink raised its
 -- count. Want of memory alone has no cause.
+abbrev pub IsEndBy : ((Plan → Type 0) → Type 0) → (End NoFault → Type 0) → ℕ → ℕ → ℕ → ℕ → List (List ℕ) → List Start → List StatSeen → List Heard → End NoFault → Type 0
+IsEndBy planned refused disk disk' sink sink' words starts stats heard ends.Ok =
+    planned (λ plan. AllStarted plan.manifest.commands plan.target.nodes starts × WereRead (Shows stats heard) plan.target.nodes) × AllDone heard × AllEnded starts heard
+IsEndBy planned refused disk disk' sink sink' words starts stats heard (ends.CommandFailed command exit) =
+    planned (λ plan. Unit {0}) × IsLastFailed heard command exit × AllEnded starts heard
+IsEndBy planned refused disk disk' sink sink' words starts stats heard (ends.MissingInput asker node) =
+    planned (λ plan. IsStuck plan.manifest.commands plan.target (Shows stats heard) starts asker node) × AllDone heard × AllEnded starts heard
+IsEndBy planned refused disk disk' sink sink' words starts stats heard (ends.Usage fault) = (fault ≡ Words) × (job_of words ≡ None) × IsIdle starts heard
+IsEndBy planned refused disk disk' sink sink' words starts stats heard (ends.NoFile path) = refused (ends.NoFile path) × IsIdle starts heard
+IsEndBy planned refused disk disk' sink sink' words starts stats heard (ends.Manifest error) = refused (ends.Manifest error) × IsIdle starts heard
+IsEndBy planned refused disk disk' sink sink' words starts stats heard (ends.UnknownTarget name) = refused (ends.UnknownTarget name) × IsIdle starts heard
+IsEndBy planned refused disk disk' sink sink' words starts stats heard ends.DiskFault = Rose disk disk' × IsJob words × AllDone heard
+IsEndBy planned refused disk disk' sink sink' words starts stats heard (ends.HostFault command fault) = ⊥
+IsEndBy planned refused disk disk' sink sink' words starts stats heard ends.SinkFault = Rose sink sink' × planned (λ plan. Unit {0}) × AllDone heard × AllEnded starts heard
+IsEndBy planned refused disk disk' sink sink' words starts stats heard ends.NoMemory = Unit {0}
+
+-- what each end of a run means, where the world tells what stood in the file of the manifest
 abbrev pub IsEnd : {D : Type 0} → (D → List ℕ → Form → Info) → (D → Type 0) → (D → List Known → Type 0) → D → D → ℕ → ℕ → ℕ → ℕ → List (List ℕ) → List Start → List StatSeen → List Heard → End NoFault → Type 0
-IsEnd at told tells old new disk disk' sink sink' words starts stats heard ends.Ok =
-    WithPlan at told tells old new words (λ plan. AllStarted plan.manifest.commands plan.target.nodes starts × WereRead (Shows stats heard) plan.target.nodes) × AllDone heard × AllEnded starts heard
-IsEnd at told tells old new disk disk' sink sink' words starts stats heard (ends.CommandFailed command exit) =
-    WithPlan at told tells old new words (λ plan. Unit {0}) × IsLastFailed heard command exit × AllEnded starts heard
-IsEnd at told tells old new disk disk' sink sink' words starts stats heard (ends.MissingInput asker node) =
-    WithPlan at told tells old new words (λ plan. IsStuck plan.manifest.commands plan.target (Shows stats heard) starts asker node) × AllDone heard × AllEnded starts heard
-IsEnd at told tells old new disk disk' sink sink' words starts stats heard (ends.Usage fault) = (fault ≡ Words) × (job_of words ≡ None) × IsIdle starts heard
-IsEnd at told tells old new disk disk' sink sink' words starts stats heard (ends.NoFile path) = IsRefused at told tells old new words (ends.NoFile path) × IsIdle starts heard
-IsEnd at told tells old new disk disk' sink sink' words starts stats heard (ends.Manifest error) = IsRefused at told tells old new words (ends.Manifest error) × IsIdle starts heard
-IsEnd at told tells old new disk disk' sink sink' words starts stats heard (ends.UnknownTarget name) = IsRefused at told tells old new words (ends.UnknownTarget name) × IsIdle starts heard
-IsEnd at told tells old new disk disk' sink sink' words starts stats heard ends.DiskFault = Rose disk disk' × IsJob words × AllDone heard
-IsEnd at told tells old new disk disk' sink sink' words starts stats heard (ends.HostFault command fault) = ⊥
-IsEnd at told tells old new disk disk' sink sink' words starts stats heard ends.SinkFault = Rose sink sink' × WithPlan at told tells old new words (λ plan. Unit {0}) × AllDone heard × AllEnded starts heard
-IsEnd at told tells old new disk disk' sink sink' words starts stats heard ends.NoMemory = Unit {0}
+IsEnd at told tells old new disk disk' sink sink' words starts stats heard end =
+    IsEndBy (WithPlan at told tells old new words) (IsRefused at told tells old new words) disk disk' sink sink' words starts stats heard end
 
 -- why a run ends before it builds
 abbrev pub IsEarlyEnd : {D : Type 0} → (D → List ℕ → Form → Info) → (D → Type 0) → (D → List Known → Type 0) → D → D → ℕ → ℕ → List (List ℕ) → End NoFault → Type 0
@@ -96,8 +101,12 @@ abbrev pub EndsAtMissing : Plan → List Start → List StatSeen → List Heard 
 EndsAtMissing plan starts stats heard end =
     (asker node : List ℕ) → IsStuck plan.manifest.commands plan.target (Shows stats heard) starts asker node → AllDone heard → AllEnded starts heard → end ≡ ends.MissingInput asker node
 
--- nothing was done, or the plan of the words was begun: each start and each order is that of a command whose inputs the report
--- shows, and none is missing; and what lacks an input ends the run
+-- nothing was done, or what was planned was begun: each start and each order is that of a command whose inputs the report shows,
+-- and none is missing; and what lacks an input ends the run
+abbrev pub MetInputsBy : ((Plan → Type 0) → Type 0) → List Start → List StatSeen → List Heard → End NoFault → Type 0
+MetInputsBy planned starts stats heard end =
+    (IsIdle starts heard × (stats ≡ [])) ⊎ planned (λ plan. AllReadFirst plan.manifest.commands (Shows stats heard) starts heard × EndsAtMissing plan starts stats heard end)
+
+-- the same, where the world tells what stood in the file of the manifest
 abbrev pub MetInputs : {D : Type 0} → (D → List ℕ → Form → Info) → (D → Type 0) → (D → List Known → Type 0) → D → D → List (List ℕ) → List Start → List StatSeen → List Heard → End NoFault → Type 0
-MetInputs at told tells old new words starts stats heard end =
-    (IsIdle starts heard × (stats ≡ [])) ⊎ WithPlan at told tells old new words (λ plan. AllReadFirst plan.manifest.commands (Shows stats heard) starts heard × EndsAtMissing plan starts stats heard end)
+MetInputs at told tells old new words starts stats heard end = MetInputsBy (WithPlan at told tells old new words) starts stats heard end
