@@ -34,12 +34,12 @@ use Rattle.llbuild_cli.specs.declared.words.Job.{Job}
 use Rattle.llbuild_cli.specs.declared.words.UsageFault.TheVariants.{Words}
 use Rattle.llbuild_cli.specs.Asked.{StopsAtMissing, AllReadFirst}
 use Rattle.llbuild_cli.specs.Built.{IsBuildStop, IsLastFailed, IsWritten, AreFresh}
-use Rattle.llbuild_cli.specs.Ends.{WithPlan, IsJob, IsIdle, IsEnd, IsEarlyEnd, StartedOnly, WasWritten, MayBeNext}
+use Rattle.llbuild_cli.specs.Ends.{WithPlan, IsJob, IsIdle, IsEnd, IsEarlyEnd, StartedOnly, WasWritten, MayBeNext, MayBeLast}
 use Rattle.llbuild_cli.specs.Heard.{HeardWell, AllDone, AllEnded, IsDone, AreOrders, AreInStep, heard_names}
 use Rattle.llbuild_cli.specs.Job.{Plan, plan_loaded, plan_named, plan_of, manifest_max, IsAnswer, Asked, IsPlan, IsRefused}
 use Rattle.llbuild_cli.specs.Moved.{Moved}
 use Rattle.llbuild_cli.specs.Opened.{IsAnswered, IsReadEnd, IsLoadEnd, IsOpened}
-use Rattle.llbuild_cli.specs.Printed.{IsNextText, line, summary, WrotePart, Wrote, WroteStopped}
+use Rattle.llbuild_cli.specs.Printed.{IsNextText, nothing, line, summary, WrotePart, Wrote, WroteStopped}
 use Rattle.llbuild_cli.specs.Reading.{WereRead}
 use Rattle.llbuild_cli.specs.Seen.{sights_of}
 use Rattle.llbuild_cli.specs.Serving.{Served}
@@ -131,19 +131,19 @@ early_why at told tells old new disk disk' sink sink' words starts stats heard (
 early_why at told tells old new disk disk' sink sink' words starts stats heard ends.SinkFault s h why = absurd why
 early_why at told tells old new disk disk' sink sink' words starts stats heard ends.NoMemory s h why = tt
 
-early_wrote : {D : Type 0} (at : D → List ℕ → Form → Info) (told : D → Type 0) (tells : D → List Known → Type 0) (old new : D) (disk disk' : ℕ) (words : List (List ℕ)) (is_next : Start → Type 0) (bytes : Option (List ℕ)) (starts : List Start) (end : End NoFault)
-    → Grew bytes bytes (lines_of starts) → IsEarlyEnd at told tells old new disk disk' words end → Wrote is_next bytes bytes starts end
-early_wrote at told tells old new disk disk' words is_next bytes starts ends.Ok none why = absurd why
-early_wrote at told tells old new disk disk' words is_next bytes starts (ends.CommandFailed command exit) none why = none
-early_wrote at told tells old new disk disk' words is_next bytes starts (ends.MissingInput asker node) none why = none
-early_wrote at told tells old new disk disk' words is_next bytes starts (ends.Usage fault) none why = none
-early_wrote at told tells old new disk disk' words is_next bytes starts (ends.NoFile path) none why = none
-early_wrote at told tells old new disk disk' words is_next bytes starts (ends.Manifest error) none why = none
-early_wrote at told tells old new disk disk' words is_next bytes starts (ends.UnknownTarget name) none why = none
-early_wrote at told tells old new disk disk' words is_next bytes starts ends.DiskFault none why = none
-early_wrote at told tells old new disk disk' words is_next bytes starts (ends.HostFault command fault) none why = none
-early_wrote at told tells old new disk disk' words is_next bytes starts ends.SinkFault none why = no_part is_next bytes bytes starts none
-early_wrote at told tells old new disk disk' words is_next bytes starts ends.NoMemory none why = no_part is_next bytes bytes starts none
+early_wrote : {D : Type 0} (at : D → List ℕ → Form → Info) (told : D → Type 0) (tells : D → List Known → Type 0) (old new : D) (disk disk' : ℕ) (words : List (List ℕ)) (is_next : Start → Type 0) (is_last : Type 0) (bytes : Option (List ℕ)) (starts : List Start) (end : End NoFault)
+    → Grew bytes bytes (lines_of starts) → IsEarlyEnd at told tells old new disk disk' words end → Wrote is_next is_last bytes bytes starts end
+early_wrote at told tells old new disk disk' words is_next is_last bytes starts ends.Ok none why = absurd why
+early_wrote at told tells old new disk disk' words is_next is_last bytes starts (ends.CommandFailed command exit) none why = none
+early_wrote at told tells old new disk disk' words is_next is_last bytes starts (ends.MissingInput asker node) none why = none
+early_wrote at told tells old new disk disk' words is_next is_last bytes starts (ends.Usage fault) none why = none
+early_wrote at told tells old new disk disk' words is_next is_last bytes starts (ends.NoFile path) none why = none
+early_wrote at told tells old new disk disk' words is_next is_last bytes starts (ends.Manifest error) none why = none
+early_wrote at told tells old new disk disk' words is_next is_last bytes starts (ends.UnknownTarget name) none why = none
+early_wrote at told tells old new disk disk' words is_next is_last bytes starts ends.DiskFault none why = none
+early_wrote at told tells old new disk disk' words is_next is_last bytes starts (ends.HostFault command fault) none why = none
+early_wrote at told tells old new disk disk' words is_next is_last bytes starts ends.SinkFault none why = no_part is_next is_last bytes bytes starts none
+early_wrote at told tells old new disk disk' words is_next is_last bytes starts ends.NoMemory none why = no_part is_next is_last bytes bytes starts none
 
 early_not_ok : {D : Type 0} (at : D → List ℕ → Form → Info) (told : D → Type 0) (tells : D → List Known → Type 0) (old new : D) (disk disk' : ℕ) (words : List (List ℕ)) (end : End NoFault)
     → IsEarlyEnd at told tells old new disk disk' words end → end ≡ ends.Ok → ⊥
@@ -168,7 +168,7 @@ early_served at told tells faults ended does old new sink bytes words starts sta
   started = inl (record { starts_are = s; heard_are = h });
   step = record { rest = []; names = ap (map (λ (x : Start). x.command)) s ∙ sym (ap (λ (hs : List Heard). heard_names hs ++ []) h); few = omega arith };
   well = record { given = λ x i. absurd (subst (λ (hs : List Heard). In x hs) h i); lawful = λ m t x i. absurd (subst (λ (hs : List Heard). In x hs) h i) };
-  wrote = early_wrote at told tells old new (faults old) (faults new) words _ bytes starts end (subst (λ (ss : List Start). Grew bytes bytes (lines_of ss)) (sym s) (Grew-none bytes)) why;
+  wrote = early_wrote at told tells old new (faults old) (faults new) words _ _ bytes starts end (subst (λ (ss : List Start). Grew bytes bytes (lines_of ss)) (sym s) (Grew-none bytes)) why;
   why = early_why at told tells old new (faults old) (faults new) sink sink words starts stats heard end s h why;
   moved = moved_wider (λ p n. absurd n) moved;
 }
@@ -182,19 +182,20 @@ stopped_why at told tells old new first disk disk' sink sink' words plan starts 
 stopped_why at told tells old new first disk disk' sink sink' words plan starts stats heard stops.SinkFault is later why = (why.0, record { plan = plan; is = is; holds = tt }, why.1, why.2)
 stopped_why at told tells old new first disk disk' sink sink' words plan starts stats heard stops.NoMemory is later why = tt
 
-part_on : (narrow wide : Start → Type 0) (old new : Option (List ℕ)) (starts : List Start) → ((s : Start) → narrow s → wide s) → WrotePart narrow old new starts → WrotePart wide old new starts
-part_on narrow wide old new starts in_wide part = record { text = part.text; next = next_on part.text part.next; count = part.count; grew = part.grew }
+part_on : (narrow wide : Start → Type 0) (few many : Type 0) (old new : Option (List ℕ)) (starts : List Start) → ((s : Start) → narrow s → wide s) → (few → many) → WrotePart narrow few old new starts → WrotePart wide many old new starts
+part_on narrow wide few many old new starts in_wide in_many part = record { text = part.text; next = next_on part.text part.next; count = part.count; grew = part.grew }
   where
-    next_on : (text : List ℕ) → IsNextText narrow starts text → IsNextText wide starts text
+    next_on : (text : List ℕ) → IsNextText narrow few starts text → IsNextText wide many starts text
     next_on text (line s n) = line s (in_wide s n)
-    next_on text summary = summary
+    next_on text (summary last) = summary (in_many last)
+    next_on text nothing = nothing
 
-stopped_wrote : (narrow wide : Start → Type 0) (old new : Option (List ℕ)) (starts : List Start) (stop : Stop) → ((s : Start) → narrow s → wide s) → WroteStopped narrow old new starts stop → Wrote wide old new starts (end_of {F = NoFault} stop)
-stopped_wrote narrow wide old new starts (stops.CommandFailed command exit) in_wide w = w
-stopped_wrote narrow wide old new starts (stops.MissingInput asker node) in_wide w = w
-stopped_wrote narrow wide old new starts stops.DiskFault in_wide w = w
-stopped_wrote narrow wide old new starts stops.SinkFault in_wide w = part_on narrow wide old new starts in_wide w
-stopped_wrote narrow wide old new starts stops.NoMemory in_wide w = part_on narrow wide old new starts in_wide w
+stopped_wrote : (narrow wide : Start → Type 0) (few many : Type 0) (old new : Option (List ℕ)) (starts : List Start) (stop : Stop) → ((s : Start) → narrow s → wide s) → (few → many) → WroteStopped narrow few old new starts stop → Wrote wide many old new starts (end_of {F = NoFault} stop)
+stopped_wrote narrow wide few many old new starts (stops.CommandFailed command exit) in_wide in_many w = w
+stopped_wrote narrow wide few many old new starts (stops.MissingInput asker node) in_wide in_many w = w
+stopped_wrote narrow wide few many old new starts stops.DiskFault in_wide in_many w = w
+stopped_wrote narrow wide few many old new starts stops.SinkFault in_wide in_many w = part_on narrow wide few many old new starts in_wide in_many w
+stopped_wrote narrow wide few many old new starts stops.NoMemory in_wide in_many w = part_on narrow wide few many old new starts in_wide in_many w
 
 stop_not_ok : (stop : Stop) → end_of {F = NoFault} stop ≡ ends.Ok → ⊥
 stop_not_ok (stops.CommandFailed command exit) e = cc e
@@ -219,7 +220,7 @@ pub stopped_served : {D : Type 0} (at : D → List ℕ → Form → Info) (told 
     (plan : Plan) (starts : List Start) (stats : List StatSeen) (heard : List Heard) (stop : Stop)
     → IsPlan at told tells old new words plan → Moved told tells at faults (λ p. ⊥) old mid → Moved told tells at faults (IsWritten plan.manifest.commands starts) mid new
     → AreStarts plan.manifest.commands plan.target.nodes starts → AreOrders plan.manifest.commands heard → AreInStep starts heard → HeardWell tells ended does new heard
-    → WroteStopped (IsNextStart plan.manifest.commands plan.target.nodes starts) bytes bytes' starts stop
+    → WroteStopped (IsNextStart plan.manifest.commands plan.target.nodes starts) (AllStarted plan.manifest.commands plan.target.nodes starts) bytes bytes' starts stop
     → IsBuildStop (faults mid) (faults new) sink sink' (Shows stats heard) plan.manifest.commands plan.target starts heard stop
     → unless_memory stop (ShownStands at tells new stats heard) → unless_memory stop (IsSingle (Shows stats heard))
     → unless_memory stop (AllReadFirst plan.manifest.commands (Shows stats heard) starts heard) → StopsAtMissing plan.manifest.commands plan.target (Shows stats heard) starts heard stop
@@ -242,7 +243,8 @@ stopped_served at told tells faults ended does old mid new sink sink' bytes byte
   started = inr (record { plan = plan; is = is; holds = (are, orders) });
   step = step;
   well = well;
-  wrote = stopped_wrote (IsNextStart plan.manifest.commands plan.target.nodes starts) _ bytes bytes' starts stop (λ s n. record { plan = plan; is = is; holds = n }) wrote;
+  wrote = stopped_wrote (IsNextStart plan.manifest.commands plan.target.nodes starts) _ (AllStarted plan.manifest.commands plan.target.nodes starts) _ bytes bytes' starts stop
+      (λ s n. record { plan = plan; is = is; holds = n }) (λ all. record { plan = plan; is = is; holds = all }) wrote;
   why = stopped_why at told tells old new (faults old) (faults mid) (faults new) sink sink' words plan starts stats heard stop is opened.later why;
   moved = moved_wider (λ p w. record { plan = plan; is = is; holds = w }) (moved_from opened moved);
 }
@@ -273,23 +275,30 @@ built_served at told tells faults ended does old mid new sink sink' bytes bytes'
   moved = moved_wider (λ p w. record { plan = plan; is = is; holds = w }) (moved_from opened moved);
 }
 
-wrote_memory : (is_next : Start → Type 0) (old new : Option (List ℕ)) (starts : List Start) (end : End NoFault) → Wrote is_next old new starts end → WrotePart is_next old new starts
-wrote_memory is_next old new starts ends.Ok w = record {
+wrote_memory : (is_next : Start → Type 0) (is_last : Type 0) (old new : Option (List ℕ)) (starts : List Start) (end : End NoFault) → (end ≡ ends.Ok → is_last) → Wrote is_next is_last old new starts end → WrotePart is_next is_last old new starts
+wrote_memory is_next is_last old new starts ends.Ok last w = record {
   text = summary_text (length starts);
-  next = summary;
+  next = summary (last refl);
   count = length (summary_text (length starts));
   grew = subst (λ (t : List ℕ). Grew old new (lines_of starts ++ t)) (sym (take_all (length (summary_text (length starts))) (summary_text (length starts)) (omega arith))) w;
 }
-wrote_memory is_next old new starts (ends.CommandFailed command exit) w = no_part is_next old new starts w
-wrote_memory is_next old new starts (ends.MissingInput asker node) w = no_part is_next old new starts w
-wrote_memory is_next old new starts (ends.Usage fault) w = no_part is_next old new starts w
-wrote_memory is_next old new starts (ends.NoFile path) w = no_part is_next old new starts w
-wrote_memory is_next old new starts (ends.Manifest error) w = no_part is_next old new starts w
-wrote_memory is_next old new starts (ends.UnknownTarget name) w = no_part is_next old new starts w
-wrote_memory is_next old new starts ends.DiskFault w = no_part is_next old new starts w
-wrote_memory is_next old new starts (ends.HostFault command fault) w = no_part is_next old new starts w
-wrote_memory is_next old new starts ends.SinkFault w = w
-wrote_memory is_next old new starts ends.NoMemory w = w
+wrote_memory is_next is_last old new starts (ends.CommandFailed command exit) last w = no_part is_next is_last old new starts w
+wrote_memory is_next is_last old new starts (ends.MissingInput asker node) last w = no_part is_next is_last old new starts w
+wrote_memory is_next is_last old new starts (ends.Usage fault) last w = no_part is_next is_last old new starts w
+wrote_memory is_next is_last old new starts (ends.NoFile path) last w = no_part is_next is_last old new starts w
+wrote_memory is_next is_last old new starts (ends.Manifest error) last w = no_part is_next is_last old new starts w
+wrote_memory is_next is_last old new starts (ends.UnknownTarget name) last w = no_part is_next is_last old new starts w
+wrote_memory is_next is_last old new starts ends.DiskFault last w = no_part is_next is_last old new starts w
+wrote_memory is_next is_last old new starts (ends.HostFault command fault) last w = no_part is_next is_last old new starts w
+wrote_memory is_next is_last old new starts ends.SinkFault last w = w
+wrote_memory is_next is_last old new starts ends.NoMemory last w = w
+
+-- a run that ends well started all
+ok_last : {D : Type 0} (at : D → List ℕ → Form → Info) (told : D → Type 0) (tells : D → List Known → Type 0) (old new : D) (disk disk' sink sink' : ℕ) (words : List (List ℕ)) (starts : List Start) (stats : List StatSeen) (heard : List Heard) (end : End NoFault)
+    → IsEnd at told tells old new disk disk' sink sink' words starts stats heard end → end ≡ ends.Ok → MayBeLast at told tells old new words starts
+ok_last at told tells old new disk disk' sink sink' words starts stats heard end why ok =
+    let is : IsEnd at told tells old new disk disk' sink sink' words starts stats heard ends.Ok = subst (λ (e : End NoFault). IsEnd at told tells old new disk disk' sink sink' words starts stats heard e) ok why in
+    record { plan = is.0.plan; is = is.0.is; holds = is.0.holds.0 }
 
 -- telling why may leave no memory
 pub told_served : {D : Type 0} (at : D → List ℕ → Form → Info) (told : D → Type 0) (tells : D → List Known → Type 0) (faults : D → ℕ) (ended : Order → Exit → Type 0) (does : Does) (old new : D) (sink sink' : ℕ) (bytes bytes' : Option (List ℕ)) (words : List (List ℕ))
@@ -306,7 +315,7 @@ told_served at told tells faults ended does old new sink sink' bytes bytes' word
       started = s.started;
       step = s.step;
       well = s.well;
-      wrote = wrote_memory _ bytes bytes' starts end s.wrote;
+      wrote = wrote_memory _ _ bytes bytes' starts end (ok_last at told tells old new (faults old) (faults new) sink sink' words starts stats heard end s.why) s.wrote;
       stood = λ n. absurd (n refl);
       why = tt;
       moved = s.moved;

@@ -102,7 +102,7 @@ grew_in_memory old new piece grew =
     let same : old ≡ a = cc was in
     is ∙ ap (λ (b : List ℕ). b ++ piece) (sym same)
 
-pub wrote_in_memory : (is_next : Start → Type 0) (old new : List ℕ) (starts : List Start) (end : End NoFault) → end ≡ ends.Ok → Wrote is_next (Some old) (Some new) starts end
+pub wrote_in_memory : (is_next : Start → Type 0) (is_last : Type 0) (old new : List ℕ) (starts : List Start) (end : End NoFault) → end ≡ ends.Ok → Wrote is_next is_last (Some old) (Some new) starts end
     → new ≡ old ++ (lines_of starts ++ summary_text (length starts))
-wrote_in_memory is_next old new starts end ok wrote =
-    grew_in_memory old new (lines_of starts ++ summary_text (length starts)) (subst (λ (e : End NoFault). Wrote is_next (Some old) (Some new) starts e) ok wrote)
+wrote_in_memory is_next is_last old new starts end ok wrote =
+    grew_in_memory old new (lines_of starts ++ summary_text (length starts)) (subst (λ (e : End NoFault). Wrote is_next is_last (Some old) (Some new) starts e) ok wrote)

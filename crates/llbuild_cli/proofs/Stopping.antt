@@ -35,7 +35,7 @@ use Rattle.llbuild_cli.specs.declared.stop.Stop.TheVariants.{CommandFailed, Miss
 use Rattle.llbuild_cli.specs.Asked.{IsNext, IsStuck}
 use Rattle.llbuild_cli.specs.Built.{NotAnnounced, Announced, PartAnnounced, CameTo, HeardOne, FailedOne, DoneOne, IsRunStop, IsLastFailed, IsBuildStop, IsFinishStop}
 use Rattle.llbuild_cli.specs.Heard.{AreOrders, AllDone, AllEnded, IsDone, IsOrderOfOne, AreInStep, HeardWell, heard_names}
-use Rattle.llbuild_cli.specs.Printed.{IsNextText, line, summary, WrotePart, WroteStopped}
+use Rattle.llbuild_cli.specs.Printed.{IsNextText, nothing, line, summary, WrotePart, WroteStopped}
 use Rattle.llbuild_cli.specs.Started.{start_of, starts_of, AreStarts, AllStarted, IsNextStart}
 use Rattle.llbuild_cli.specs.Written.{GrewByPart}
 use Rattle.llbuild_cli.specs.Texts.{line_of, lines_from, lines_of, summary_text}
@@ -69,19 +69,19 @@ wrote_same old mid new before after wrote a =
     (Grew-both old mid new (lines_of before) [] wrote a.grew)
 
 -- all lines, and no part of what is next
-pub no_part : (is_next : Start → Type 0) (old new : Option (List ℕ)) (starts : List Start) → Grew old new (lines_of starts) → WrotePart is_next old new starts
-no_part is_next old new starts grew = record {
-  text = summary_text (length starts);
-  next = summary;
+pub no_part : (is_next : Start → Type 0) (is_last : Type 0) (old new : Option (List ℕ)) (starts : List Start) → Grew old new (lines_of starts) → WrotePart is_next is_last old new starts
+no_part is_next is_last old new starts grew = record {
+  text = [];
+  next = nothing;
   count = 0;
   grew = subst (λ (t : List ℕ). Grew old new t) (sym (append-nil (lines_of starts))) grew;
 }
 
 -- a part of the line of a start that is next
-line_part : (commands : List Command) (wanted : List Input) (old mid new : Option (List ℕ)) (c : Command) (before after : List Start) → Grew old mid (lines_of before)
+line_part : (commands : List Command) (wanted : List Input) (is_last : Type 0) (old mid new : Option (List ℕ)) (c : Command) (before after : List Start) → Grew old mid (lines_of before)
     → In c commands → IsNeeded commands wanted c → (In (start_of c) before → ⊥) → PartAnnounced c mid new before after
-    → WrotePart (IsNextStart commands wanted after) old new after
-line_part commands wanted old mid new c before after wrote named needed fresh part = record {
+    → WrotePart (IsNextStart commands wanted after) is_last old new after
+line_part commands wanted is_last old mid new c before after wrote named needed fresh part = record {
   text = line_of (length after + 1) (start_of c);
   next = line (start_of c) (record { command = c; named = named; needed = needed; is = refl; not_started = λ i. fresh (subst (λ (ss : List Start). In (start_of c) ss) part.same i) });
   count = part.grew.0;
@@ -89,19 +89,19 @@ line_part commands wanted old mid new c before after wrote named needed fresh pa
       (Grew-both old mid new (lines_of before) (take part.grew.0 (line_of (length before + 1) (start_of c))) wrote part.grew.1);
 }
 
-pub wrote_stopped : (commands : List Command) (wanted : List Input) (old mid new : Option (List ℕ)) (c : Command) (before after : List Start) (stop : Stop) → Grew old mid (lines_of before)
+pub wrote_stopped : (commands : List Command) (wanted : List Input) (is_last : Type 0) (old mid new : Option (List ℕ)) (c : Command) (before after : List Start) (stop : Stop) → Grew old mid (lines_of before)
     → In c commands → IsNeeded commands wanted c → (In (start_of c) before → ⊥) → CameTo c mid new before after stop
-    → WroteStopped (IsNextStart commands wanted after) old new after stop
-wrote_stopped commands wanted old mid new c before after (CommandFailed command exit) wrote named needed fresh came = wrote_more old mid new c before after wrote came
-wrote_stopped commands wanted old mid new c before after (MissingInput asker node) wrote named needed fresh came = wrote_same old mid new before after wrote came
-wrote_stopped commands wanted old mid new c before after DiskFault wrote named needed fresh came = elim came [
+    → WroteStopped (IsNextStart commands wanted after) is_last old new after stop
+wrote_stopped commands wanted is_last old mid new c before after (CommandFailed command exit) wrote named needed fresh came = wrote_more old mid new c before after wrote came
+wrote_stopped commands wanted is_last old mid new c before after (MissingInput asker node) wrote named needed fresh came = wrote_same old mid new before after wrote came
+wrote_stopped commands wanted is_last old mid new c before after DiskFault wrote named needed fresh came = elim came [
   | inl n ↦ wrote_same old mid new before after wrote n
   | inr a ↦ wrote_more old mid new c before after wrote a
 ]
-wrote_stopped commands wanted old mid new c before after SinkFault wrote named needed fresh came = line_part commands wanted old mid new c before after wrote named needed fresh came
-wrote_stopped commands wanted old mid new c before after NoMemory wrote named needed fresh came = elim came [
-  | inl n ↦ line_part commands wanted old mid new c before after wrote named needed fresh n
-  | inr a ↦ no_part (IsNextStart commands wanted after) old new after (wrote_more old mid new c before after wrote a)
+wrote_stopped commands wanted is_last old mid new c before after SinkFault wrote named needed fresh came = line_part commands wanted is_last old mid new c before after wrote named needed fresh came
+wrote_stopped commands wanted is_last old mid new c before after NoMemory wrote named needed fresh came = elim came [
+  | inl n ↦ line_part commands wanted is_last old mid new c before after wrote named needed fresh n
+  | inr a ↦ no_part (IsNextStart commands wanted after) is_last old new after (wrote_more old mid new c before after wrote a)
 ]
 
 -- the starts are those of before, or this one more
@@ -318,23 +318,23 @@ starts_grow before after s x (inr more) i = subst (λ (ss : List Start). In x ss
 wrote_nothing : (old mid new : Option (List ℕ)) (starts : List Start) → Grew old mid (lines_of starts) → Grew mid new [] → Grew old new (lines_of starts)
 wrote_nothing old mid new starts wrote none = subst (λ (t : List ℕ). Grew old new t) (append-nil (lines_of starts)) (Grew-both old mid new (lines_of starts) [] wrote none)
 
-summary_part : (is_next : Start → Type 0) (old mid new : Option (List ℕ)) (starts : List Start) → Grew old mid (lines_of starts) → GrewByPart mid new (summary_text (length starts))
-    → WrotePart is_next old new starts
-summary_part is_next old mid new starts wrote part = record {
+summary_part : (is_next : Start → Type 0) (is_last : Type 0) (old mid new : Option (List ℕ)) (starts : List Start) → is_last → Grew old mid (lines_of starts) → GrewByPart mid new (summary_text (length starts))
+    → WrotePart is_next is_last old new starts
+summary_part is_next is_last old mid new starts last wrote part = record {
   text = summary_text (length starts);
-  next = summary;
+  next = summary last;
   count = part.0;
   grew = Grew-both old mid new (lines_of starts) (take part.0 (summary_text (length starts))) wrote part.1;
 }
 
 -- what was written where a build stopped behind its commands
-pub finish_part : (is_next : Start → Type 0) (disk disk' sink sink' : ℕ) (old mid new : Option (List ℕ)) (shown : List ℕ → Info → Type 0) (target : TargetEntry) (starts : List Start) (stop : Stop)
-    → Grew old mid (lines_of starts) → IsFinishStop disk disk' sink sink' mid new shown target (summary_text (length starts)) stop → WroteStopped is_next old new starts stop
-finish_part is_next disk disk' sink sink' old mid new shown target starts (CommandFailed command exit) wrote why = absurd why
-finish_part is_next disk disk' sink sink' old mid new shown target starts (MissingInput asker node) wrote why = wrote_nothing old mid new starts wrote why.2
-finish_part is_next disk disk' sink sink' old mid new shown target starts DiskFault wrote why = wrote_nothing old mid new starts wrote why.1
-finish_part is_next disk disk' sink sink' old mid new shown target starts SinkFault wrote why = summary_part is_next old mid new starts wrote why.1
-finish_part is_next disk disk' sink sink' old mid new shown target starts NoMemory wrote why = summary_part is_next old mid new starts wrote why
+pub finish_part : (is_next : Start → Type 0) (is_last : Type 0) (disk disk' sink sink' : ℕ) (old mid new : Option (List ℕ)) (shown : List ℕ → Info → Type 0) (target : TargetEntry) (starts : List Start) (stop : Stop)
+    → is_last → Grew old mid (lines_of starts) → IsFinishStop disk disk' sink sink' mid new shown target (summary_text (length starts)) stop → WroteStopped is_next is_last old new starts stop
+finish_part is_next is_last disk disk' sink sink' old mid new shown target starts (CommandFailed command exit) last wrote why = absurd why
+finish_part is_next is_last disk disk' sink sink' old mid new shown target starts (MissingInput asker node) last wrote why = wrote_nothing old mid new starts wrote why.2
+finish_part is_next is_last disk disk' sink sink' old mid new shown target starts DiskFault last wrote why = wrote_nothing old mid new starts wrote why.1
+finish_part is_next is_last disk disk' sink sink' old mid new shown target starts SinkFault last wrote why = summary_part is_next is_last old mid new starts last wrote why.1
+finish_part is_next is_last disk disk' sink sink' old mid new shown target starts NoMemory last wrote why = summary_part is_next is_last old mid new starts last wrote why
 
 -- why a build stopped behind its commands
 pub finish_stopped : (first disk disk' start sink sink' : ℕ) (mid new : Option (List ℕ)) (told : Type 0) (at : List ℕ → Form → Info) (asked : List ℕ → Type 0) (commands : List Command) (target : TargetEntry) (a b : Seen) (text : List ℕ) (stop : Stop)

@@ -96,6 +96,10 @@ WasWritten at told tells old new words starts p = WithPlan at told tells old new
 abbrev pub MayBeNext : {D : Type 0} → (D → List ℕ → Form → Info) → (D → Type 0) → (D → List Known → Type 0) → D → D → List (List ℕ) → List Start → Start → Type 0
 MayBeNext at told tells old new words starts next = WithPlan at told tells old new words (λ plan. IsNextStart plan.manifest.commands plan.target.nodes starts next)
 
+-- all that the plan of the words needs was started
+abbrev pub MayBeLast : {D : Type 0} → (D → List ℕ → Form → Info) → (D → Type 0) → (D → List Known → Type 0) → D → D → List (List ℕ) → List Start → Type 0
+MayBeLast at told tells old new words starts = WithPlan at told tells old new words (λ plan. AllStarted plan.manifest.commands plan.target.nodes starts)
+
 -- where what is next lacks an input while each order ended and succeeded, the run ends so
 abbrev pub EndsAtMissing : Plan → List Start → List StatSeen → List Heard → End NoFault → Type 0
 EndsAtMissing plan starts stats heard end =

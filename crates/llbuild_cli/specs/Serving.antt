@@ -13,7 +13,7 @@ use Rattle.llbuild_cli.specs.declared.report.Heard.{Heard}
 use Rattle.llbuild_cli.specs.declared.report.Start.{Start}
 use Rattle.llbuild_cli.specs.declared.report.StatSeen.{StatSeen}
 use Rattle.llbuild_cli.specs.Built.{AreFresh}
-use Rattle.llbuild_cli.specs.Ends.{IsEnd, WithPlan, StartedOnly, WasWritten, MayBeNext, MetInputs}
+use Rattle.llbuild_cli.specs.Ends.{IsEnd, WithPlan, StartedOnly, WasWritten, MayBeNext, MayBeLast, MetInputs}
 use Rattle.llbuild_cli.specs.Heard.{HeardWell, AreInStep}
 use Rattle.llbuild_cli.specs.Moved.{Moved}
 use Rattle.llbuild_cli.specs.Printed.{Wrote}
@@ -28,7 +28,7 @@ pub record Served {D : Type 0} (at : D → List ℕ → Form → Info) (told : D
   pub started : StartedOnly at told tells old new words starts heard
   pub step : AreInStep starts heard
   pub well : HeardWell tells ended does new heard
-  pub wrote : Wrote (MayBeNext at told tells old new words starts) bytes bytes' starts end
+  pub wrote : Wrote (MayBeNext at told tells old new words starts) (MayBeLast at told tells old new words starts) bytes bytes' starts end
   pub stood : (end ≡ ends.NoMemory → ⊥) → ShownStands at tells new stats heard
   pub inputs : (end ≡ ends.NoMemory → ⊥) → MetInputs at told tells old new words starts stats heard end
   pub why : IsEnd at told tells old new (faults old) (faults new) sink sink' words starts stats heard end

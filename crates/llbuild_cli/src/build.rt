@@ -101,7 +101,7 @@ fn run_all<L: Law, W: World<L>, O: Sink>(
     ensures step { AreInStep seen.new.starts seen.new.heard }
     ensures orders { AreOrders manifest.now.commands seen.new.heard }
     ensures heard { HeardWell W.tells W.ended L.does world.new seen.new.heard }
-    ensures part { IfErr result (WroteStopped (IsNextStart manifest.now.commands target.now.nodes seen.new.starts) (O.bytes out.old) (O.bytes out.new) seen.new.starts) }
+    ensures part { IfErr result (WroteStopped (IsNextStart manifest.now.commands target.now.nodes seen.new.starts) (AllStarted manifest.now.commands target.now.nodes seen.new.starts) (O.bytes out.old) (O.bytes out.new) seen.new.starts) }
     ensures stop { IfErr result (IsBuildStop (W.faults world.old) (W.faults world.new) (O.faults out.old) (O.faults out.new) (Shows seen.new.stats seen.new.heard) manifest.now.commands target.now seen.new.starts seen.new.heard) }
     ensures read { ButForMemory result (AllReadFirst manifest.now.commands (Shows seen.new.stats seen.new.heard) seen.new.starts seen.new.heard) }
     ensures single { ButForMemory result (IsSingle (Shows seen.new.stats seen.new.heard)) }
@@ -177,7 +177,7 @@ pub fn build<L: Law, W: World<L>, O: Sink>(
     ensures ended { OnOk result (AllEnded seen.new.starts seen.new.heard) }
     ensures stood { ButForMemory result (ShownStands W.at W.tells world.new seen.new.stats seen.new.heard) }
     ensures wrote { OnOk result (Grew (O.bytes out.old) (O.bytes out.new) (lines_of seen.new.starts ++ summary_text (length seen.new.starts))) }
-    ensures part { IfErr result (WroteStopped (IsNextStart manifest.now.commands target.now.nodes seen.new.starts) (O.bytes out.old) (O.bytes out.new) seen.new.starts) }
+    ensures part { IfErr result (WroteStopped (IsNextStart manifest.now.commands target.now.nodes seen.new.starts) (AllStarted manifest.now.commands target.now.nodes seen.new.starts) (O.bytes out.old) (O.bytes out.new) seen.new.starts) }
     ensures stop { IfErr result (IsBuildStop (W.faults world.old) (W.faults world.new) (O.faults out.old) (O.faults out.new) (Shows seen.new.stats seen.new.heard) manifest.now.commands target.now seen.new.starts seen.new.heard) }
     ensures missing { IfErr result (StopsAtMissing manifest.now.commands target.now (Shows seen.new.stats seen.new.heard) seen.new.starts seen.new.heard) }
 {

@@ -4,7 +4,7 @@ ghost use Rattle.file_info.specs.Content.{Known, content};
 ghost use Rattle.file_info.specs.Lists.{In};
 ghost use Rattle.outside.specs.Reading.{bytes_of};
 ghost use Rattle.llbuild_cli.specs.Built.{AreFresh};
-ghost use Rattle.llbuild_cli.specs.Ends.{IsEnd, WithPlan, StartedOnly, WasWritten, MayBeNext, MetInputs, end_in};
+ghost use Rattle.llbuild_cli.specs.Ends.{IsEnd, WithPlan, StartedOnly, WasWritten, MayBeNext, MayBeLast, MetInputs, end_in};
 ghost use Rattle.llbuild_cli.specs.Heard.{HeardWell, AreInStep};
 ghost use Rattle.llbuild_cli.specs.Job.{plan_of, manifest_max};
 ghost use Rattle.llbuild_cli.specs.Moved.{Moved};
@@ -114,7 +114,8 @@ pub fn run_alone<L: Law, W: World<L>, O: Sink, E: Sink>(
     ensures heard { HeardWell W.tells W.ended L.does world.new result.report.heard }
     ensures step { AreInStep result.report.starts result.report.heard }
     ensures status { result.status ≡ status_of result.report.end }
-    ensures wrote { Wrote (MayBeNext W.at W.told W.tells world.old world.new (map string_bytes words.now) result.report.starts) (O.bytes out.old) (O.bytes out.new) result.report.starts result.report.end }
+    ensures wrote { Wrote (MayBeNext W.at W.told W.tells world.old world.new (map string_bytes words.now) result.report.starts) (MayBeLast W.at W.told W.tells world.old world.new (map string_bytes words.now) result.report.starts)
+        (O.bytes out.old) (O.bytes out.new) result.report.starts result.report.end }
     ensures failure { WroteUnlessFault (E.bytes err.old) (E.bytes err.new) (E.faults err.old) (E.faults err.new) (failure_text result.report.end) }
     ensures end { IsEnd W.at W.told W.tells world.old world.new (W.faults world.old) (W.faults world.new) (O.faults out.old) (O.faults out.new) (map string_bytes words.now)
         result.report.starts result.report.stats result.report.heard result.report.end }

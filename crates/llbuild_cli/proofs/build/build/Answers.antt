@@ -35,7 +35,7 @@ pub returns-in_err-marks-clause-part : goal.returns-in_err-marks-clause-part
 returns-in_err-marks-clause-part g c =
     let bytes = g.O.Sink.bytes c.args.out.now in
     if_err c.from_residual.result NoMemory _ (search rules)
-    (no_part _ bytes bytes c.args.seen.now.starts (subst (λ (ss : List Start). Grew bytes bytes (lines_of ss)) (sym c.requires.unseen.starts) (Grew-none bytes)))
+    (no_part _ _ bytes bytes c.args.seen.now.starts (subst (λ (ss : List Start). Grew bytes bytes (lines_of ss)) (sym c.requires.unseen.starts) (Grew-none bytes)))
 
 pub returns-clause-fresh : goal.returns-clause-fresh
 returns-clause-fresh g c k t =
@@ -94,11 +94,17 @@ returns-in_err-finish-clause-heard g c =
 
 pub returns-in_err-finish-clause-part : goal.returns-in_err-finish-clause-part
 returns-in_err-finish-clause-part g c =
+    let commands = c.args.manifest.now.commands in
+    let target = c.args.target.now in
+    let marks = c.as_slice.result.now in
+    let are : AreMarks commands target.nodes marks = subst (λ (ms : List _). AreMarks commands target.nodes ms) (sym c.as_slice.ensures.value) c.in_ok-marks.ensures in
+    let all : AllStarted commands target.nodes c.finish.new.seen.starts =
+    subst (λ (ss : List Start). AllStarted commands target.nodes ss) (sym (c.finish.ensures.runs.starts ∙ c.in_ok-run_all.ensures.started)) (all_started commands target.nodes marks are) in
     let bytes = g.O.Sink.bytes in
     let starts = c.run_all.new.seen.starts in
     if_err c.from_residual-in_err-finish.result c.in_err-finish.field-0.0 _ (search rules)
-    (finish_part _ (g.W.Disk.faults c.run_all.new.world) (g.W.Disk.faults c.finish.new.world) (g.O.Sink.faults c.run_all.new.out) (g.O.Sink.faults c.finish.new.out)
-    (bytes c.args.out.now) (bytes c.run_all.new.out) (bytes c.finish.new.out) (Knows c.finish.new.seen) c.args.target.now c.finish.new.seen.starts c.in_err-finish.field-0.0
+    (finish_part _ _ (g.W.Disk.faults c.run_all.new.world) (g.W.Disk.faults c.finish.new.world) (g.O.Sink.faults c.run_all.new.out) (g.O.Sink.faults c.finish.new.out)
+    (bytes c.args.out.now) (bytes c.run_all.new.out) (bytes c.finish.new.out) (Knows c.finish.new.seen) c.args.target.now c.finish.new.seen.starts c.in_err-finish.field-0.0 all
     (subst (λ (ss : List Start). Grew (bytes c.args.out.now) (bytes c.run_all.new.out) (lines_of ss)) (sym c.finish.ensures.runs.starts) c.in_ok-run_all.ensures.wrote)
     (subst (λ (ss : List Start). IsFinishStop (g.W.Disk.faults c.run_all.new.world) (g.W.Disk.faults c.finish.new.world) (g.O.Sink.faults c.run_all.new.out) (g.O.Sink.faults c.finish.new.out)
     (bytes c.run_all.new.out) (bytes c.finish.new.out) (Knows c.finish.new.seen) c.args.target.now (summary_text (length ss)) c.in_err-finish.field-0.0) (sym c.finish.ensures.runs.starts) c.in_err-finish.ensures.stop))

@@ -174,7 +174,7 @@ returns-in_err-run_one-clause-part g c =
     let sink = g.O.Sink.faults in
     let shown = Shows c.run_one.new.seen.stats c.run_one.new.seen.heard in
     if_err c.from_residual.result stop _ (search rules)
-    (wrote_stopped commands wanted (bytes c.args.out.now) (bytes c.commands.out) (bytes c.run_one.new.out) cmd before after stop old.wrote named ((c.requires.marks.each place cmd at_place).0 marked)
+    (wrote_stopped commands wanted _ (bytes c.args.out.now) (bytes c.commands.out) (bytes c.run_one.new.out) cmd before after stop old.wrote named ((c.requires.marks.each place cmd at_place).0 marked)
     (λ i. not_started commands marks place cmd rule at_place (subst (λ (ss : List Start). In (start_of cmd) ss) old.starts i)) came)
 
 pub returns-in_err-run_one-clause-stop : goal.returns-in_err-run_one-clause-stop

@@ -15,7 +15,7 @@ returns-clause-fresh c ok =
 
 pub returns-clause-lines : goal.returns-clause-lines
 returns-clause-lines c ok =
-    wrote_in_memory _ c.args.out.now.items c.run_alone-finish.new.out.items c.run_alone-finish.result.report.starts c.run_alone-finish.result.report.end ok c.run_alone-finish.ensures.wrote
+    wrote_in_memory _ _ c.args.out.now.items c.run_alone-finish.new.out.items c.run_alone-finish.result.report.starts c.run_alone-finish.result.report.end ok c.run_alone-finish.ensures.wrote
 
 pub returns-clause-end : goal.returns-clause-end
 returns-clause-end c =
