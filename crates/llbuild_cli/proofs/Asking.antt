@@ -1,7 +1,6 @@
 -- What a build met of inputs.
-use Rattle.std.proofs.Common.{◌≡◌, ◌⊎◌, ◌≤◌, ◌+◌, ℕ, List, [], ◌∷◌, ◌++◌, map, length, refl, sym, ◌∙◌, ap, inl, inr, subst, arith, length-append}
-use Rattle.std.specs.Prelude.{Option, Some, Result, Ok, Err}
-use Rattle.file_info.specs.Content.{node_text}
+use Rattle.std.proofs.Common.{◌≡◌, ◌⊎◌, ◌+◌, ℕ, List, [], ◌∷◌, ◌++◌, length, refl, sym, ◌∙◌, ap, inl, inr, subst, arith, length-append}
+use Rattle.std.specs.Prelude.{Option}
 use Rattle.file_info.specs.Lists.{In}
 use Rattle.file_info.specs.declared.info.Info.{Info}
 use Rattle.file_info.specs.declared.info.Info.TheVariants.{Missing}
@@ -24,8 +23,8 @@ use Rattle.llbuild_cli.specs.declared.report.StatSeen.{StatSeen}
 use Rattle.llbuild_cli.specs.declared.seen.Seen.{Seen}
 use Rattle.llbuild_cli.specs.declared.stop.Stop.{Stop}
 use Rattle.llbuild_cli.specs.declared.stop.Stop.TheVariants.{CommandFailed, MissingInput, DiskFault, SinkFault, NoMemory}
-use Rattle.llbuild_cli.specs.Asked.{IsNext, AsksNext, AsksLast, IsAsker, IsStuck, StopsAtMissing, IsStartOn, IsOrderOn, ReadFirst, AllReadFirst}
-use Rattle.llbuild_cli.specs.Built.{NotAnnounced, Announced, CameTo, IsRunStop, IsLastFailed, IsBuildStop, IsFinishStop}
+use Rattle.llbuild_cli.specs.Asked.{IsNext, IsAsker, IsStuck, StopsAtMissing, IsStartOn, IsOrderOn, ReadFirst, AllReadFirst}
+use Rattle.llbuild_cli.specs.Built.{CameTo, IsRunStop, IsLastFailed, IsBuildStop}
 use Rattle.llbuild_cli.specs.Heard.{IsDone, AllDone, AllEnded, heard_names}
 use Rattle.llbuild_cli.specs.Looked.{Looked, SameRuns}
 use Rattle.llbuild_cli.specs.Reading.{SeenAs, IsRead, AreRead, IsFirstMissing, IsUnseen, IsFirstUnseen, WereRead}

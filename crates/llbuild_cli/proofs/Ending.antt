@@ -1,22 +1,20 @@
 -- How a run ends.
-use Rattle.std.proofs.Common.{◌≡◌, ◌⊎◌, ◌≤◌, ◌+◌, ℕ, List, [], ◌∷◌, ◌++◌, map, length, take, refl, sym, ◌∙◌, ap, inl, inr, subst, arith, append-nil}
+use Rattle.std.proofs.Common.{◌≡◌, ◌⊎◌, ◌≤◌, ℕ, List, [], ◌∷◌, ◌++◌, map, length, refl, sym, ◌∙◌, ap, inl, inr, subst, arith}
 use Rattle.std.specs.Option.{option_and_then}
-use Rattle.std.specs.Prelude.{slice_get, Option, Some, None, Result, Ok, Err}
+use Rattle.std.specs.Prelude.{slice_get, Option, Some, None, Err}
 use Rattle.std.proofs.lemmas.List.{take_all}
 use Rattle.file_info.specs.Content.{Known, content}
 use Rattle.file_info.specs.Lists.{In}
 use Rattle.file_info.specs.declared.info.Info.{Info}
 use Rattle.file_info.specs.declared.info.Form.{Form}
 use Rattle.file_info.specs.declared.info.Form.TheVariants.{Follow}
-use Rattle.outside.specs.Telling.{Keeps, Rose, Grew}
+use Rattle.outside.specs.Telling.{Keeps, Grew}
 use Rattle.outside.specs.Reading.{bytes_of}
-use Rattle.outside.specs.declared.disk.FileBytes.{FileBytes}
 use Rattle.outside.specs.declared.disk.FileBytes.TheVariants.{Bytes}
 use Rattle.outside.specs.declared.order.Order.{Order}
 use Rattle.outside.specs.declared.order.Exit.{Exit}
 use Rattle.outside.specs.declared.world.NoFault.{NoFault}
 use Rattle.manifest_reader.specs.declared.command.TargetEntry.{TargetEntry}
-use Rattle.manifest_reader.specs.Load.{loaded}
 use Rattle.manifest_reader.specs.Manifest.{ManifestLists}
 use Rattle.manifest_reader.specs.Places.{target_place, target_named}
 use Rattle.build_meaning.specs.Fresh.{Does}
@@ -25,7 +23,7 @@ use Rattle.llbuild_cli.specs.declared.report.End.{End}
 use Rattle.llbuild_cli.specs.declared.report.End.TheVariants as ends
 use Rattle.llbuild_cli.specs.declared.report.Heard.{Heard}
 use Rattle.llbuild_cli.specs.declared.report.Outcome.{Outcome}
-use Rattle.llbuild_cli.specs.declared.report.Outcome.TheVariants.{Failed, Done}
+use Rattle.llbuild_cli.specs.declared.report.Outcome.TheVariants.{Failed}
 use Rattle.llbuild_cli.specs.declared.report.Start.{Start}
 use Rattle.llbuild_cli.specs.declared.report.StatSeen.{StatSeen}
 use Rattle.llbuild_cli.specs.declared.stop.Stop.{Stop}
@@ -34,7 +32,7 @@ use Rattle.llbuild_cli.specs.declared.words.Job.{Job}
 use Rattle.llbuild_cli.specs.declared.words.UsageFault.TheVariants.{Words}
 use Rattle.llbuild_cli.specs.Asked.{StopsAtMissing, AllReadFirst}
 use Rattle.llbuild_cli.specs.Built.{IsBuildStop, IsLastFailed, IsWritten, AreFresh}
-use Rattle.llbuild_cli.specs.Ends.{WithPlan, IsJob, IsIdle, IsEnd, IsEarlyEnd, StartedOnly, WasWritten, MayBeNext, MayBeLast}
+use Rattle.llbuild_cli.specs.Ends.{IsIdle, IsEnd, IsEarlyEnd, MayBeLast}
 use Rattle.llbuild_cli.specs.Heard.{HeardWell, AllDone, AllEnded, IsDone, AreOrders, AreInStep, heard_names}
 use Rattle.llbuild_cli.specs.Job.{Plan, plan_loaded, plan_named, plan_of, manifest_max, IsAnswer, Asked, IsPlan, IsRefused}
 use Rattle.llbuild_cli.specs.Moved.{Moved}

@@ -1,18 +1,17 @@
 -- How a world and what was seen go on from call to call.
-use Rattle.std.proofs.Common.{◌≡◌, ◌⊎◌, ◌≤◌, ℕ, List, [], ◌∷◌, ◌++◌, map, refl, sym, ◌∙◌, ap, inl, inr, arith, subst, append-nil, length}
+use Rattle.std.proofs.Common.{◌≡◌, ◌≤◌, ℕ, List, [], ◌∷◌, ◌++◌, map, refl, sym, ◌∙◌, ap, inl, inr, arith, subst, append-nil, length}
 use Rattle.std.specs.Result.{IsErrAnd}
 use Rattle.std.proofs.lemmas.List.{take_all}
 use Rattle.std.specs.Prelude.{Option, Some, None, Result, Ok, Err, IfErr, OnErr}
 use Rattle.file_info.specs.Content.{Known}
-use Rattle.file_info.specs.Lists.{In}
 use Rattle.file_info.specs.declared.info.Info.{Info}
 use Rattle.file_info.specs.declared.info.Form.{Form}
 use Rattle.file_info.specs.declared.info.Form.TheVariants.{Follow}
 use Rattle.outside.specs.Telling.{Keeps, Grew}
 use Rattle.llbuild_cli.specs.Written.{GrewByPart}
 use Rattle.llbuild_cli.specs.declared.seen.Seen.{Seen}
-use Rattle.llbuild_cli.specs.Seen.{known, Knows, sights_of}
-use Rattle.llbuild_cli.specs.Looked.{IsNew, Looked, SameRuns}
+use Rattle.llbuild_cli.specs.Seen.{known}
+use Rattle.llbuild_cli.specs.Looked.{Looked, SameRuns}
 use Rattle.build_meaning.proofs.Ins.{map-append}
 use Rattle.llbuild_cli.specs.Moved.{Moved}
 use Rattle.outside.specs.declared.world.NoFault.{NoFault}

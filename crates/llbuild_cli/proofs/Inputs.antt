@@ -1,11 +1,11 @@
 -- What is read of inputs, as what was seen grows.
-use Rattle.std.proofs.Common.{◌≡◌, ◌⊎◌, ◌≤◌, arith, ℕ, List, [], ◌∷◌, ◌++◌, map, refl, sym, ◌∙◌, ap, inl, inr, subst}
+use Rattle.std.proofs.Common.{◌≡◌, ◌≤◌, arith, ℕ, List, [], ◌∷◌, ◌++◌, map, refl, sym, ◌∙◌, ap, inl, inr, subst}
 use Rattle.file_info.specs.Content.{Content, Known, content, Absent, node_text, ReadContent, One, read_contents}
 use Rattle.file_info.specs.Lists.{In}
 use Rattle.file_info.specs.declared.info.Info.{Info}
 use Rattle.file_info.specs.declared.info.Info.TheVariants.{Missing, Directory, File as FileInfo, Link}
 use Rattle.file_info.specs.declared.node.NodeName.{NodeName}
-use Rattle.file_info.specs.declared.node.NodeName.TheVariants.{Path, Virtual}
+use Rattle.file_info.specs.declared.node.NodeName.TheVariants.{Path}
 use Rattle.file_info.specs.declared.node.Read.{Read}
 use Rattle.file_info.specs.declared.node.Reading.{Reading}
 use Rattle.file_info.specs.declared.node.Reading.TheVariants as readings
@@ -14,7 +14,7 @@ use Rattle.manifest_reader.specs.declared.command.InputForm.{InputForm}
 use Rattle.manifest_reader.specs.declared.command.InputForm.TheVariants.{File}
 use Rattle.manifest_reader.specs.Served.{IsFileInput}
 use Rattle.outside.specs.Formed.{IsReadOf, AreReadsOf}
-use Rattle.outside.specs.Meaning.{InputKey, NodeKey}
+use Rattle.outside.specs.Meaning.{NodeKey}
 use Rattle.build_meaning.specs.Commands.{key_of, key_in}
 use Rattle.build_meaning.specs.Fresh.{nodes_read, as_read}
 use Rattle.llbuild_cli.specs.declared.stop.Stop.{Stop}

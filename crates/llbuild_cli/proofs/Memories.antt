@@ -1,8 +1,7 @@
 -- What is said of runs holds of files in memory without a premise.
 use Rattle.std.proofs.Common.{◌≡◌, ◌++◌, ℕ, List, length, refl, sym, ◌∙◌, ap, subst, inl, inr}
-use Rattle.std.specs.Prelude.{Option, Some, Ok}
-use Rattle.file_info.specs.Content.{Content, Known, content, Absent, node_text}
-use Rattle.file_info.specs.Lists.{In}
+use Rattle.std.specs.Prelude.{Some}
+use Rattle.file_info.specs.Content.{Content, Known, content, node_text}
 use Rattle.file_info.specs.declared.info.Info.{Info}
 use Rattle.file_info.specs.declared.info.Form.{Form}
 use Rattle.file_info.specs.declared.info.Form.TheVariants.{Follow}

@@ -1,8 +1,8 @@
 -- What the rules of a manifest and its marks say of a command at its place.
-use Rattle.std.proofs.Common.{◌≡◌, ◌⊎◌, ◌<◌, ◌≤◌, ℕ, zero, suc, ◌+◌, Bool, true, false, List, [], ◌∷◌, ◌++◌, map, length, take, drop, refl, sym, ◌∙◌, ap, inl, inr, subst, arith, add-one, suc-add, zero-add, add-suc}
+use Rattle.std.proofs.Common.{◌≡◌, ◌⊎◌, ◌<◌, ◌≤◌, ℕ, zero, suc, ◌+◌, Bool, true, List, [], ◌∷◌, map, length, drop, refl, sym, ◌∙◌, ap, inl, inr, subst, arith, suc-add, zero-add}
 use Rattle.std.specs.Prelude.{slice_get, Option, Some, None}
 use Rattle.file_info.specs.Content.{Known, node_text}
-use Rattle.file_info.specs.Lists.{In, IsDistinct}
+use Rattle.file_info.specs.Lists.{In}
 use Rattle.file_info.specs.declared.info.Info.{Info}
 use Rattle.file_info.specs.declared.info.Form.{Form}
 use Rattle.file_info.specs.declared.node.NodeName.TheVariants.{Path}
@@ -15,14 +15,11 @@ use Rattle.build_meaning.specs.Needed.{IsNeeded, wants, needs, AreMarks}
 use Rattle.build_meaning.specs.Orderly.{AreOrderly}
 use Rattle.build_meaning.proofs.Ins.{get-less, In-index, In-get, get-map}
 use Rattle.build_meaning.proofs.Orderly.{made_path, one_place}
-use Rattle.llbuild_cli.specs.declared.report.Start.{Start}
 use Rattle.llbuild_cli.specs.declared.seen.Seen.{Seen}
 use Rattle.llbuild_cli.specs.Seen.{known, Knows}
 use Rattle.llbuild_cli.specs.Ready.{IsInput, IsOutput}
 use Rattle.llbuild_cli.specs.Stands.{Stands}
-use Rattle.llbuild_cli.specs.Started.{start_of, starts_of, AreStarts, AllStarted}
 use Rattle.llbuild_cli.proofs.Steps.{In-drop, In-later}
-use Rattle.llbuild_cli.proofs.Runs.{split_last}
 
 pub get-drop : {A : Type 0} (xs : List A) (n j : ℕ) (x : A) → slice_get (drop n xs) j ≡ Some x → slice_get xs (n + j) ≡ Some x
 get-drop xs zero j x e = rw zero-add e

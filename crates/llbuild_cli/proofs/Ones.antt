@@ -1,36 +1,32 @@
 -- One command that ran, from its parts.
-use Rattle.std.proofs.Common.{◌≡◌, ◌⊎◌, ◌<◌, ◌≤◌, ◌+◌, ℕ, zero, suc, List, [], ◌∷◌, ◌++◌, map, length, refl, sym, ◌∙◌, ap, inl, inr, subst, arith}
-use Rattle.std.specs.Prelude.{slice_get, Option, Some, None}
+use Rattle.std.proofs.Common.{◌≡◌, ◌<◌, ℕ, zero, suc, List, [], ◌∷◌, ◌++◌, map, length, refl, sym, ◌∙◌, ap, inl, inr, subst, arith}
+use Rattle.std.specs.Prelude.{slice_get, Some, None}
 use Rattle.file_info.specs.Content.{Content, Known, content, node_text, read_contents}
 use Rattle.file_info.specs.Lists.{In}
 use Rattle.file_info.specs.declared.info.Info.{Info}
 use Rattle.file_info.specs.declared.info.Form.{Form}
 use Rattle.file_info.specs.declared.info.Form.TheVariants.{Follow}
 use Rattle.file_info.specs.declared.node.Read.{Read}
-use Rattle.file_info.specs.declared.node.Reading.{Reading}
 use Rattle.file_info.specs.declared.node.Reading.TheVariants.{File}
-use Rattle.file_info.specs.declared.node.NodeName.TheVariants.{Path}
 use Rattle.manifest_reader.specs.declared.command.Command.{Command}
 use Rattle.outside.specs.declared.order.Order.{Order}
 use Rattle.outside.specs.declared.order.Exit.{Exit}
-use Rattle.outside.specs.declared.order.Exit.TheVariants.{Code}
 use Rattle.outside.specs.Formed.{paths_of}
 use Rattle.outside.specs.Meaning.{signature_of}
 use Rattle.build_meaning.specs.Commands.{meaning_of}
 use Rattle.build_meaning.specs.Fresh.{Does}
 use Rattle.build_meaning.proofs.Ins.{get-less, In-get, In-index, In-left, In-right, In-either, In-one, get-map}
 use Rattle.llbuild_cli.specs.declared.report.Heard.{Heard}
-use Rattle.llbuild_cli.specs.declared.report.Outcome.{Outcome}
-use Rattle.llbuild_cli.specs.declared.report.Outcome.TheVariants.{Failed, Done}
+use Rattle.llbuild_cli.specs.declared.report.Outcome.TheVariants.{Done}
 use Rattle.llbuild_cli.specs.declared.report.StatSeen.{StatSeen}
 use Rattle.llbuild_cli.specs.declared.seen.Seen.{Seen}
 use Rattle.llbuild_cli.specs.Seen.{known, Knows, sights_of}
-use Rattle.llbuild_cli.specs.Looked.{IsNew, Looked}
+use Rattle.llbuild_cli.specs.Looked.{Looked}
 use Rattle.llbuild_cli.specs.Moved.{Moved}
-use Rattle.llbuild_cli.specs.Heard.{HeardWell, IsGiven, IsLawful, IsOutcomeOf, contents_of}
-use Rattle.llbuild_cli.specs.Reading.{AreRead, IsRead}
+use Rattle.llbuild_cli.specs.Heard.{HeardWell, IsGiven, IsLawful, contents_of}
+use Rattle.llbuild_cli.specs.Reading.{AreRead}
 use Rattle.llbuild_cli.specs.Settled.{AllNoted, SettledDone}
-use Rattle.llbuild_cli.specs.Shows.{GivesInfo, WasHeard, Shows, ShownStands}
+use Rattle.llbuild_cli.specs.Shows.{GivesInfo, WasHeard, ShownStands}
 use Rattle.llbuild_cli.specs.Ready.{AllKnown, IsInput, IsOutput, IsSound, SeenStands, ReadsStand, IsOrderFor, Ran, contents_made, DidLaw}
 use Rattle.llbuild_cli.proofs.Going.{looked_on}
 use Rattle.llbuild_cli.proofs.Inputs.{input_of}

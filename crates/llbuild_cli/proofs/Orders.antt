@@ -1,12 +1,12 @@
 -- What one order does.
-use Rattle.std.proofs.Common.{◌≡◌, ◌⊎◌, ◌≤◌, ◌+◌, ℕ, List, [], ◌∷◌, ◌++◌, map, refl, sym, ◌∙◌, ap, inl, inr, subst, arith}
+use Rattle.std.proofs.Common.{◌≡◌, ℕ, List, [], ◌∷◌, ◌++◌, map, refl, sym, ◌∙◌, ap, inl, inr, subst}
 use Rattle.std.specs.Prelude.{false, true}
 use Rattle.file_info.specs.Content.{Content, Known, content, node_text, read_contents}
 use Rattle.file_info.specs.Lists.{In}
 use Rattle.file_info.specs.declared.info.Info.{Info}
 use Rattle.file_info.specs.declared.info.Info.TheVariants as infos
 use Rattle.file_info.specs.declared.info.Form.{Form}
-use Rattle.file_info.specs.declared.info.Form.TheVariants.{Follow, Link}
+use Rattle.file_info.specs.declared.info.Form.TheVariants.{Follow}
 use Rattle.file_info.specs.declared.node.NodeName.{NodeName}
 use Rattle.file_info.specs.declared.node.NodeName.TheVariants.{Path}
 use Rattle.file_info.specs.declared.node.Read.{Read}
@@ -21,8 +21,8 @@ use Rattle.outside.specs.declared.order.Order.{Order}
 use Rattle.outside.specs.declared.order.Act.{Act}
 use Rattle.outside.specs.declared.order.Act.TheVariants.{Spawn}
 use Rattle.outside.specs.Formed.{IsReadOf, AreReadsOf, IsActOf, IsFormed, deps_of, paths_of}
-use Rattle.outside.specs.Meaning.{NodeKey, signature_of}
-use Rattle.outside.specs.Outcomes.{IsWritten, SameBut, StandsAs, Unchanged, IsFound, found_contents, contents_at, output_form, form_of}
+use Rattle.outside.specs.Meaning.{NodeKey}
+use Rattle.outside.specs.Outcomes.{IsWritten, StandsAs, Unchanged, IsFound, found_contents, contents_at, output_form, form_of}
 use Rattle.build_meaning.specs.Commands.{key_in, key_of, meaning_of}
 use Rattle.build_meaning.specs.Fresh.{Does}
 use Rattle.build_meaning.proofs.Ins.{In-one}

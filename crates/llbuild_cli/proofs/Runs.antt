@@ -1,7 +1,7 @@
 -- A command that ran leaves what stands, one place further.
-use Rattle.std.proofs.Common.{◌≡◌, ◌⊎◌, ◌<◌, ◌≤◌, ℕ, zero, suc, ◌+◌, Bool, true, false, List, [], ◌∷◌, ◌++◌, map, drop, refl, sym, ◌∙◌, ap, inl, inr, subst, arith}
-use Rattle.std.specs.Prelude.{slice_get, Option, Some, None}
-use Rattle.file_info.specs.Content.{Content, Known, content, Absent, read_contents}
+use Rattle.std.proofs.Common.{◌≡◌, ◌⊎◌, ◌<◌, ℕ, zero, suc, ◌+◌, Bool, true, false, List, [], drop, refl, sym, ◌∙◌, ap, inl, inr, subst, arith}
+use Rattle.std.specs.Prelude.{slice_get, Some}
+use Rattle.file_info.specs.Content.{Content, Known, content}
 use Rattle.file_info.specs.Lists.{In}
 use Rattle.file_info.specs.declared.info.Info.{Info}
 use Rattle.file_info.specs.declared.info.Form.{Form}
@@ -10,15 +10,15 @@ use Rattle.manifest_reader.specs.declared.command.Command.{Command}
 use Rattle.outside.specs.Formed.{paths_of}
 use Rattle.outside.specs.Meaning.{signature_of}
 use Rattle.build_meaning.specs.Commands.{meaning_of}
-use Rattle.build_meaning.specs.Fresh.{Does, Sights, IsMade, Fresh, source, made, as_read}
+use Rattle.build_meaning.specs.Fresh.{Does, Sights, IsMade, Fresh, made}
 use Rattle.build_meaning.proofs.Ins.{In-index, In-get, get-map}
 use Rattle.build_meaning.proofs.Single.{Fresh-more}
 use Rattle.llbuild_cli.specs.declared.report.Heard.{Heard}
 use Rattle.llbuild_cli.specs.declared.report.StatSeen.{StatSeen}
 use Rattle.llbuild_cli.specs.declared.seen.Seen.{Seen}
-use Rattle.llbuild_cli.specs.Seen.{known, Knows, sights_of}
+use Rattle.llbuild_cli.specs.Seen.{Knows, sights_of}
 use Rattle.llbuild_cli.specs.Moved.{Moved}
-use Rattle.llbuild_cli.specs.Shows.{WasHeard, Shows, ShownStands}
+use Rattle.llbuild_cli.specs.Shows.{WasHeard, ShownStands}
 use Rattle.llbuild_cli.specs.Ready.{IsInput, IsOutput, Ran, contents_made, DidLaw}
 use Rattle.llbuild_cli.specs.Stands.{Stands}
 use Rattle.llbuild_cli.proofs.Inputs.{files_read, read_files, read_nodes, file_seen, is_missing}

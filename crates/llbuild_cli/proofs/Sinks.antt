@@ -1,8 +1,8 @@
 -- Bytes that are told, and counts that rise.
-use Rattle.std.proofs.Common.{◌≡◌, ◌≤◌, ◌+◌, ◌-◌, ◌^◌, ℕ, zero, suc, List, [], ◌∷◌, ◌++◌, take, drop, length, min, refl, sym, ap, ◌∙◌, subst, append_assoc, append-nil, arith, zero-add, suc-add}
+use Rattle.std.proofs.Common.{◌≡◌, ◌+◌, ℕ, zero, suc, List, [], ◌∷◌, ◌++◌, take, drop, sym, ap, ◌∙◌, append_assoc, append-nil, zero-add, suc-add}
 use Rattle.std.proofs.Math.Seq.{take-nil}
-use Rattle.std.specs.Prelude.{Option, Some}
-use Rattle.outside.specs.Telling.{Grew, Rose}
+use Rattle.std.specs.Prelude.{Option}
+use Rattle.outside.specs.Telling.{Grew}
 
 pub Grew-none : (o : Option (List ℕ)) → Grew o o []
 Grew-none o b e = (b, e, sym (append-nil b))

@@ -1,15 +1,15 @@
 -- The starts of the marked commands.
-use Rattle.std.proofs.Common.{◌≡◌, ◌⊎◌, ◌<◌, ◌≤◌, ℕ, zero, suc, ◌+◌, Bool, true, false, List, [], ◌∷◌, ◌++◌, map, length, take, drop, refl, sym, ◌∙◌, ap, inl, inr, subst, arith, add-one, suc-add}
-use Rattle.std.specs.Prelude.{slice_get, Option, Some, None}
+use Rattle.std.proofs.Common.{◌≡◌, ◌<◌, ℕ, zero, suc, ◌+◌, Bool, true, false, List, [], ◌∷◌, ◌++◌, map, take, refl, sym, ◌∙◌, ap, inl, inr, arith, add-one}
+use Rattle.std.specs.Prelude.{slice_get, Some}
 use Rattle.file_info.specs.Lists.{In, IsDistinct}
 use Rattle.manifest_reader.specs.declared.command.Command.{Command}
 use Rattle.manifest_reader.specs.declared.command.Input.{Input}
 use Rattle.build_meaning.specs.Needed.{IsNeeded, wants, needs, AreMarks}
 use Rattle.build_meaning.specs.Orderly.{AreOrderly}
-use Rattle.build_meaning.proofs.Ins.{In-index, In-get, get-map, In-map, In-map-back}
+use Rattle.build_meaning.proofs.Ins.{In-index, In-get, get-map}
 use Rattle.build_meaning.proofs.Orderly.{one_place}
 use Rattle.llbuild_cli.specs.declared.report.Start.{Start}
-use Rattle.llbuild_cli.specs.Started.{start_of, starts_of, AreStarts, AllStarted, IsNextStart}
+use Rattle.llbuild_cli.specs.Started.{start_of, starts_of, AreStarts, AllStarted}
 
 -- the marked command of a start
 pub record IsStartAt (commands : List Command) (marks : List Bool) (s : Start) : Type 0 where

@@ -1,29 +1,24 @@
 -- What stands between two commands goes on from command to command.
-use Rattle.std.proofs.Common.{◌≡◌, ◌⊎◌, ◌<◌, ◌≤◌, ℕ, zero, suc, ◌+◌, Bool, true, false, List, [], ◌∷◌, ◌++◌, map, length, drop, refl, sym, ◌∙◌, ap, inl, inr, subst, arith, eqb, eqb-true, eq-eqb, add-one}
-use Rattle.std.specs.Prelude.{slice_get, Option, Some, None}
-use Rattle.file_info.specs.Content.{Content, Known, content, Absent, node_text}
+use Rattle.std.proofs.Common.{◌≡◌, ◌⊎◌, ◌≤◌, ℕ, zero, suc, ◌+◌, Bool, true, false, List, [], ◌∷◌, ◌++◌, drop, refl, sym, ◌∙◌, ap, inl, inr, subst, arith, eqb, eqb-true, eq-eqb, add-one}
+use Rattle.std.specs.Prelude.{slice_get, Some, None}
+use Rattle.file_info.specs.Content.{Known}
 use Rattle.file_info.specs.Lists.{In}
 use Rattle.file_info.specs.declared.info.Info.{Info}
 use Rattle.file_info.specs.declared.info.Form.{Form}
 use Rattle.file_info.specs.declared.info.Form.TheVariants.{Follow}
 use Rattle.manifest_reader.specs.declared.command.Command.{Command}
-use Rattle.outside.specs.Formed.{paths_of}
-use Rattle.outside.specs.Meaning.{signature_of}
-use Rattle.build_meaning.specs.Commands.{meaning_of}
-use Rattle.build_meaning.specs.Fresh.{Does, Sights, IsMade, Fresh, source, made, as_read}
+use Rattle.build_meaning.specs.Fresh.{Does, Sights, IsMade, source}
 use Rattle.build_meaning.proofs.Single.{Fresh-more}
 use Rattle.llbuild_cli.specs.declared.seen.Seen.{Seen}
 use Rattle.llbuild_cli.specs.declared.report.Heard.{Heard}
 use Rattle.llbuild_cli.specs.Seen.{known, Knows, sights_of, IsUnused}
 use Rattle.llbuild_cli.specs.Looked.{IsNew, Looked}
 use Rattle.llbuild_cli.specs.Moved.{Moved}
-use Rattle.llbuild_cli.specs.Shows.{WasHeard, Shows}
-use Rattle.llbuild_cli.specs.Ready.{IsInput, IsOutput, SeenStands, IsSound, Ran, contents_made, DidLaw}
+use Rattle.llbuild_cli.specs.Shows.{WasHeard}
 use Rattle.llbuild_cli.specs.Stands.{Stands}
 use Rattle.llbuild_cli.specs.declared.report.StatSeen.{StatSeen}
 use Rattle.llbuild_cli.specs.Seen.{Noted}
-use Rattle.build_meaning.proofs.Ins.{In-left, In-right, In-either, In-one, In-index, In-get, get-map, map-append}
-use Rattle.llbuild_cli.proofs.Inputs.{files_read, read_files, read_nodes, file_seen, is_missing}
+use Rattle.build_meaning.proofs.Ins.{In-left, In-right, In-either, In-one, In-get, map-append}
 
 same_tails : (x y : ℕ) (xs ys : List ℕ) → x ≡ y → (xs ≡ ys) ⊎ (xs ≡ ys → ⊥) → (x ∷ xs ≡ y ∷ ys) ⊎ (x ∷ xs ≡ y ∷ ys → ⊥)
 same_tails x y xs ys e (inl f) = inl (cc (e, f))

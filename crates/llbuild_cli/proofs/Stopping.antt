@@ -1,7 +1,7 @@
 -- How a build stops at a command.
-use Rattle.std.proofs.Common.{◌≡◌, ◌⊎◌, ◌<◌, ◌≤◌, ◌+◌, ℕ, zero, suc, List, [], ◌∷◌, ◌++◌, map, length, take, drop, refl, sym, ◌∙◌, ap, inl, inr, subst, arith, append_assoc, append-nil, length-append, add-one, zero-add, suc-add}
+use Rattle.std.proofs.Common.{◌≡◌, ◌⊎◌, ◌≤◌, ◌+◌, ℕ, zero, suc, List, [], ◌∷◌, ◌++◌, length, take, drop, refl, sym, ◌∙◌, ap, inl, inr, subst, arith, append_assoc, append-nil, zero-add}
 use Rattle.std.proofs.lemmas.List.{length-map}
-use Rattle.std.specs.Prelude.{slice_get, Option, Some, None, true}
+use Rattle.std.specs.Prelude.{slice_get, Option, Some, true}
 use Rattle.file_info.specs.Lists.{In}
 use Rattle.file_info.specs.declared.info.Info.{Info}
 use Rattle.manifest_reader.specs.declared.command.Command.{Command}
@@ -27,19 +27,19 @@ use Rattle.llbuild_cli.proofs.Inputs.{first_missing_on}
 use Rattle.llbuild_cli.proofs.Ones.{heard_more}
 use Rattle.build_meaning.specs.Needed.{IsNeeded, AreMarks}
 use Rattle.build_meaning.specs.Orderly.{AreOrderly}
-use Rattle.build_meaning.proofs.Ins.{In-left, In-right, In-either, In-one, In-get, map-append}
+use Rattle.build_meaning.proofs.Ins.{In-left, In-either, In-one, map-append}
 use Rattle.llbuild_cli.specs.declared.report.Heard.{Heard}
 use Rattle.llbuild_cli.specs.declared.report.Start.{Start}
 use Rattle.llbuild_cli.specs.declared.stop.Stop.{Stop}
 use Rattle.llbuild_cli.specs.declared.stop.Stop.TheVariants.{CommandFailed, MissingInput, DiskFault, SinkFault, NoMemory}
-use Rattle.llbuild_cli.specs.Asked.{IsNext, IsStuck}
-use Rattle.llbuild_cli.specs.Built.{NotAnnounced, Announced, PartAnnounced, CameTo, HeardOne, FailedOne, DoneOne, IsRunStop, IsLastFailed, IsBuildStop, IsFinishStop}
+use Rattle.llbuild_cli.specs.Asked.{IsNext}
+use Rattle.llbuild_cli.specs.Built.{NotAnnounced, Announced, PartAnnounced, CameTo, HeardOne, DoneOne, IsRunStop, IsBuildStop, IsFinishStop}
 use Rattle.llbuild_cli.specs.Heard.{AreOrders, AllDone, AllEnded, IsDone, IsOrderOfOne, AreInStep, HeardWell, heard_names}
-use Rattle.llbuild_cli.specs.Printed.{IsNextText, nothing, line, summary, WrotePart, WroteStopped}
+use Rattle.llbuild_cli.specs.Printed.{nothing, line, summary, WrotePart, WroteStopped}
 use Rattle.llbuild_cli.specs.Started.{start_of, starts_of, AreStarts, AllStarted, IsNextStart}
 use Rattle.llbuild_cli.specs.Written.{GrewByPart}
 use Rattle.llbuild_cli.specs.Texts.{line_of, lines_from, lines_of, summary_text}
-use Rattle.llbuild_cli.proofs.Sinks.{Grew-both, Grew-none}
+use Rattle.llbuild_cli.proofs.Sinks.{Grew-both}
 use Rattle.llbuild_cli.proofs.Starting.{start_names, starts_more, are_starts, not_started, was_started}
 
 -- a count that rose later rose from before
@@ -342,16 +342,15 @@ pub finish_stopped : (first disk disk' start sink sink' : ℕ) (mid new : Option
     → first ≤ disk → start ≤ sink → IsFinishStop disk disk' sink sink' mid new (Knows b) target text stop
     → IsBuildStop first disk' start sink' (Shows b.stats b.heard) commands target b.starts b.heard stop
 finish_stopped first disk disk' start sink sink' mid new told at asked commands target a b text (CommandFailed command exit) shown heard looked all done ended later slater why = absurd why
-finish_stopped first disk disk' start sink sink' mid new told at asked commands target a b text (MissingInput asker node) shown heard looked all done ended later slater why =
-    (
-      record {
-        inputs = target.nodes;
-        asks = inr (record { started = all; named = sym why.0; inputs_are = refl });
-        first = first_missing_on (shown_looked shown heard looked) why.1;
-      },
-      done,
-      ended,
-    )
+finish_stopped first disk disk' start sink sink' mid new told at asked commands target a b text (MissingInput asker node) shown heard looked all done ended later slater why = (
+  record {
+    inputs = target.nodes;
+    asks = inr (record { started = all; named = sym why.0; inputs_are = refl });
+    first = first_missing_on (shown_looked shown heard looked) why.1;
+  },
+  done,
+  ended,
+)
 finish_stopped first disk disk' start sink sink' mid new told at asked commands target a b text DiskFault shown heard looked all done ended later slater why = (Rose-last first disk disk' later why.0, done)
 finish_stopped first disk disk' start sink sink' mid new told at asked commands target a b text SinkFault shown heard looked all done ended later slater why = (Rose-last start sink sink' slater why.0, done, ended)
 finish_stopped first disk disk' start sink sink' mid new told at asked commands target a b text NoMemory shown heard looked all done ended later slater why = done

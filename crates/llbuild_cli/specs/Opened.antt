@@ -1,6 +1,5 @@
 -- A manifest that was opened.
-use Rattle.std.specs.Prelude.{◌≡◌, ℕ, IsTrue, List, Option, Some, Result, Ok, Err}
-use Rattle.std.specs.Str.{is_utf8}
+use Rattle.std.specs.Prelude.{◌≡◌, ℕ, List, Ok, Err}
 use Rattle.file_info.specs.Content.{Known}
 use Rattle.file_info.specs.declared.info.Info.{Info}
 use Rattle.file_info.specs.declared.info.Form.{Form}

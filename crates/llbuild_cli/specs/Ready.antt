@@ -1,5 +1,5 @@
 -- What a command finds before it runs, and leaves behind it.
-use Rattle.std.specs.Prelude.{◌≡◌, ◌⊎◌, ℕ, List, [], map, Some}
+use Rattle.std.specs.Prelude.{◌≡◌, ◌⊎◌, ℕ, List, [], map}
 use Rattle.file_info.specs.Content.{Content, Known, content, node_text, read_contents}
 use Rattle.file_info.specs.Lists.{In, IsDistinct}
 use Rattle.file_info.specs.declared.info.Info.{Info}

@@ -1,7 +1,6 @@
 -- What holds between two commands of a serial build.
 use Rattle.std.specs.Prelude.{◌≡◌, ◌<◌, ℕ, Bool, true, List, drop, slice_get, Some}
 use Rattle.file_info.specs.Content.{Known, content}
-use Rattle.file_info.specs.Lists.{In}
 use Rattle.file_info.specs.declared.info.Info.{Info}
 use Rattle.file_info.specs.declared.info.Form.{Form}
 use Rattle.manifest_reader.specs.declared.command.Command.{Command}

@@ -1,8 +1,6 @@
-use Rattle.std.proofs.Common.{rules, ◌≡◌, ◌≤◌, ◌∙◌, ◌++◌, ◌∷◌, ◌+◌, [], ℕ, List, length, refl, sym, ap, subst, arith, inl}
-use Rattle.std.specs.Prelude.{Some}
-use Rattle.file_info.specs.Content.{Content, Known, content, node_text}
+use Rattle.std.proofs.Common.{rules, ◌≡◌, ◌∙◌, ◌++◌, ℕ, List, length, sym, ap, subst}
+use Rattle.file_info.specs.Content.{content, node_text}
 use Rattle.file_info.specs.declared.info.Info.{Info}
-use Rattle.file_info.specs.declared.info.Form.{Form}
 use Rattle.file_info.specs.declared.info.Form.TheVariants.{Follow}
 use Rattle.outside.specs.Telling.{Grew}
 use Rattle.build_meaning.specs.Fresh.{Fresh}
@@ -23,7 +21,7 @@ use Rattle.llbuild_cli.proofs.Inputs.{read_of}
 use Rattle.llbuild_cli.proofs.Needs.{nodes_settled}
 use Rattle.llbuild_cli.proofs.Ones.{heard_on}
 use Rattle.llbuild_cli.proofs.Runs.{stands_shown}
-use Rattle.llbuild_cli.proofs.Asking.{asked_on, finish_missing, first_looked_on, single_known, target_asks}
+use Rattle.llbuild_cli.proofs.Asking.{asked_on, finish_missing, first_looked_on, single_known}
 use Rattle.llbuild_cli.proofs.Ones.{known_looked}
 use Rattle.llbuild_cli.proofs.Inputs.{all_read_on}
 use Rattle.llbuild_cli.proofs.Starting.{all_started}

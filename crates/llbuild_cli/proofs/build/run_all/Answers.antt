@@ -1,19 +1,18 @@
-use Rattle.std.proofs.Common.{rules, ◌≡◌, ◌⊎◌, ◌≤◌, ◌∙◌, ◌++◌, ◌∷◌, ◌+◌, [], ℕ, List, length, take, drop, refl, sym, ap, subst, arith, inl, inr, true, false}
+use Rattle.std.proofs.Common.{rules, ◌≡◌, ◌⊎◌, ◌∙◌, ◌++◌, ◌∷◌, [], ℕ, List, drop, sym, ap, subst, arith, inr, true, false}
 use Rattle.std.specs.Prelude.{slice_get, Some}
 use Rattle.file_info.specs.Lists.{In}
 use Rattle.build_meaning.specs.Fresh.{IsMade}
 use Rattle.build_meaning.specs.Orderly.{AreOrderly}
-use Rattle.build_meaning.proofs.Ins.{In-get, In-right, get-read, take-drop-get}
+use Rattle.build_meaning.proofs.Ins.{In-get, get-read, take-drop-get}
 use Rattle.build_meaning.proofs.Orderly.{orderly}
 use Rattle.llbuild_cli.specs.declared.report.Start.{Start}
-use Rattle.llbuild_cli.specs.Built.{IsWritten}
 use Rattle.llbuild_cli.specs.Shows.{Shows}
-use Rattle.llbuild_cli.specs.Started.{start_of, starts_of, AreStarts}
+use Rattle.llbuild_cli.specs.Started.{start_of, AreStarts}
 use Rattle.llbuild_cli.proofs.Going.{if_err, but_err, unless_on, moved_both, moved_wider}
 use Rattle.llbuild_cli.proofs.Needs.{made_once, inputs_settled, outputs_unseen}
 use Rattle.llbuild_cli.proofs.Runs.{made_here, stands_ran, stands_skip, stands_shown}
 use Rattle.llbuild_cli.proofs.Starting.{starts_more, starts_skip, are_starts, not_started}
-use Rattle.llbuild_cli.proofs.Stopping.{wrote_more, wrote_stopped, came_starts, starts_stopped, step_stopped, names_both, orders_one, orders_stopped, done_one, build_stopped, starts_grow, even_names, is_next, no_orders}
+use Rattle.llbuild_cli.proofs.Stopping.{wrote_more, wrote_stopped, came_starts, starts_stopped, step_stopped, names_both, orders_one, orders_stopped, done_one, build_stopped, starts_grow, even_names, is_next}
 use Rattle.llbuild_cli.proofs.Asking.{first_more, run_missing, single_known}
 use Rattle.llbuild_cli.proofs.build.run_all.Goals as goal
 

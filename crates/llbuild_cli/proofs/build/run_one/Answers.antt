@@ -1,5 +1,4 @@
 use Rattle.std.proofs.Common.{rules, ◌≡◌, ◌≤◌, ◌∙◌, ◌++◌, ◌∷◌, ◌+◌, [], ℕ, List, length, refl, sym, ap, subst, arith, inl, inr}
-use Rattle.file_info.specs.Content.{Known}
 use Rattle.file_info.specs.Lists.{In}
 use Rattle.build_meaning.proofs.Ins.{In-left, In-right, In-either, In-one}
 use Rattle.llbuild_cli.specs.declared.report.Start.{Start}

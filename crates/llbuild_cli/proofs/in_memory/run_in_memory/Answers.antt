@@ -1,8 +1,7 @@
-use Rattle.std.proofs.Common.{◌≡◌, ◌++◌, ℕ, List, map, length}
+use Rattle.std.proofs.Common.{map}
 use Rattle.std.specs.Prelude.{string_bytes}
 use Rattle.std.specs.Global.{Global}
 use Rattle.memory_world.specs.Memory.{map_of}
-use Rattle.llbuild_cli.specs.Texts.{lines_of, summary_text}
 use Rattle.llbuild_cli.proofs.Memories.{planned_in_memory, refused_in_memory, fresh_in_memory, planned_on, end_on, inputs_on, wrote_in_memory}
 use Rattle.llbuild_cli.proofs.in_memory.run_in_memory.Goals as goal
 

@@ -1,12 +1,10 @@
-use Rattle.std.proofs.Common.{rules, ◌≡◌, ◌+◌, ◌++◌, ◌∷◌, [], ℕ, List, take, drop, get_or, refl, sym, ◌∙◌, ap, inl, inr, subst, arith}
+use Rattle.std.proofs.Common.{rules, ◌≡◌, ◌+◌, ◌++◌, ◌∷◌, [], take, drop, sym, ◌∙◌, ap, subst}
 use Rattle.std.proofs.lemmas.List.{take_more}
 use Rattle.file_info.specs.Lists.{In}
 use Rattle.file_info.specs.declared.info.Form.TheVariants.{Follow}
 use Rattle.manifest_reader.specs.declared.command.Input.{Input}
 use Rattle.llbuild_cli.specs.Looked.{Looked}
-use Rattle.llbuild_cli.specs.Ready.{IsInput}
 use Rattle.llbuild_cli.specs.Seen.{Knows}
-use Rattle.llbuild_cli.specs.Reading.{AreRead}
 use Rattle.build_meaning.proofs.Ins.{In-at, In-one, take-drop}
 use Rattle.llbuild_cli.proofs.Going.{moved_both, looked_both, looked_on, looked_wider, runs_both, unless_on, but_err, if_err}
 use Rattle.llbuild_cli.proofs.Inputs.{read_more, all_read_on, read_stop}

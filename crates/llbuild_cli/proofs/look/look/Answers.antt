@@ -1,4 +1,4 @@
-use Rattle.std.proofs.Common.{◌≡◌, ◌∙◌, ℕ, List, rules, sym, ap}
+use Rattle.std.proofs.Common.{◌∙◌, ℕ, List, rules, sym, ap}
 use Rattle.file_info.specs.declared.info.Form.TheVariants.{Follow}
 use Rattle.llbuild_cli.proofs.Steps.{looked_source}
 use Rattle.llbuild_cli.proofs.look.look.Goals as goal

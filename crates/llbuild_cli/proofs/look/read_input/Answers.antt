@@ -1,6 +1,5 @@
-use Rattle.std.proofs.Common.{◌≡◌, ◌∙◌, ◌∷◌, [], ℕ, List, rules, refl, sym, ap, inl, inr}
+use Rattle.std.proofs.Common.{◌∙◌, rules, refl, sym, ap, inl}
 use Rattle.file_info.specs.Content.{node_text}
-use Rattle.llbuild_cli.specs.Ready.{IsInput}
 use Rattle.llbuild_cli.proofs.Going.{looked_wider, unless_on, but_err}
 use Rattle.llbuild_cli.proofs.look.read_input.Goals as goal
 

@@ -1,4 +1,4 @@
-use Rattle.std.proofs.Common.{rules, ◌≡◌, ◌∙◌, ℕ, List, map, refl, sym, ap}
+use Rattle.std.proofs.Common.{rules, map, refl}
 use Rattle.std.specs.Prelude.{string_bytes}
 use Rattle.std.specs.Global.{Global}
 use Rattle.outside.specs.declared.disk.FileBytes.TheVariants.{Bytes}

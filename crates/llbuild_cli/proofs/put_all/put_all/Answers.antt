@@ -1,4 +1,4 @@
-use Rattle.std.proofs.Common.{◌≡◌, ◌≤◌, ◌+◌, ◌-◌, ℕ, List, take, drop, length, sym, subst, arith, length-drop, ap, ◌∙◌}
+use Rattle.std.proofs.Common.{◌≡◌, ◌-◌, ℕ, List, take, drop, length, sym, subst, arith, length-drop, ap}
 use Rattle.std.proofs.lemmas.List.{take_all}
 use Rattle.outside.specs.Telling.{Grew}
 use Rattle.llbuild_cli.proofs.Sinks.{Grew-both, take-both}

@@ -1,4 +1,4 @@
-use Rattle.std.proofs.Common.{◌≡◌, ◌≤◌, ◌-◌, take, length}
+use Rattle.std.proofs.Common.{◌≤◌, ◌-◌, take, length}
 use Rattle.outside.specs.Telling.{Grew}
 use Rattle.llbuild_cli.proofs.put_all.put_all.Given as goal
 

@@ -1,12 +1,11 @@
-use Rattle.std.proofs.Common.{rules, ◌≡◌, ◌∙◌, ℕ, List, map, refl, sym, ap, subst}
-use Rattle.std.specs.Prelude.{string_bytes, Option, Some, None, Result, Ok, Err}
+use Rattle.std.proofs.Common.{rules, ◌≡◌, ◌∙◌, ℕ, List, map, sym, ap, subst}
+use Rattle.std.specs.Prelude.{string_bytes, Some, None, Result, Err}
 use Rattle.std.specs.Prelude.{true}
 use Rattle.std.specs.Str.{is_utf8}
 use Rattle.std.specs.Global.{Global}
 use Rattle.std.proofs.lemmas.Str.{IsUtf8-from_is_utf8}
 use Rattle.outside.specs.declared.world.NoFault.{NoFault}
 use Rattle.manifest_reader.specs.Places.{target_named}
-use Rattle.manifest_reader.specs.Served.{IsManifest}
 use Rattle.manifest_reader.proofs.Served.{loaded-served}
 use Rattle.llbuild_cli.specs.declared.report.End.{End}
 use Rattle.llbuild_cli.specs.declared.report.End.TheVariants.{UnknownTarget}
