@@ -41,13 +41,14 @@ use Rattle.llbuild_cli.specs.Printed.{IsNextText, nothing, line, summary, WroteP
 use Rattle.llbuild_cli.specs.Reading.{WereRead}
 use Rattle.llbuild_cli.specs.Seen.{sights_of}
 use Rattle.llbuild_cli.specs.Serving.{Served}
-use Rattle.llbuild_cli.specs.Shows.{Shows, ShownStands, IsSingle}
+use Rattle.llbuild_cli.specs.Shows.{Shows, ShownStands, HeardStands, IsSingle}
 use Rattle.llbuild_cli.specs.Started.{AllStarted, AreStarts, IsNextStart}
 use Rattle.llbuild_cli.specs.Stops.{end_of, unless_memory}
 use Rattle.llbuild_cli.specs.Texts.{lines_of, summary_text}
 use Rattle.llbuild_cli.specs.Words.{job_of}
 use Rattle.llbuild_cli.proofs.Going.{moved_both, moved_wider}
 use Rattle.llbuild_cli.proofs.Asking.{read_not_stuck, target_asks}
+use Rattle.llbuild_cli.proofs.Ones.{outcomes_none}
 use Rattle.llbuild_cli.proofs.Sinks.{Grew-none}
 use Rattle.llbuild_cli.proofs.Stopping.{no_part}
 
@@ -161,6 +162,7 @@ pub early_served : {D : Type 0} (at : D → List ℕ → Form → Info) (told : 
 early_served at told tells faults ended does old new sink bytes words starts stats heard end s k h why moved = record {
   stood = λ n m t p i shows. absurd (nothing_shown stats heard p i k h shows);
   fresh = λ ok. absurd (early_not_ok at told tells old new (faults old) (faults new) words end why ok);
+  outcomes = outcomes_none at tells new heard h;
   once = λ n p i j a b. absurd (nothing_shown stats heard p i k h a);
   inputs = λ n. inl (record { starts_are = s; heard_are = h }, k);
   started = inl (record { starts_are = s; heard_are = h });
@@ -217,13 +219,14 @@ unless_end stops.NoMemory A a n = absurd (n refl)
 pub stopped_served : {D : Type 0} (at : D → List ℕ → Form → Info) (told : D → Type 0) (tells : D → List Known → Type 0) (faults : D → ℕ) (ended : Order → Exit → Type 0) (does : Does) (old mid new : D) (sink sink' : ℕ) (bytes bytes' : Option (List ℕ)) (words : List (List ℕ))
     (plan : Plan) (starts : List Start) (stats : List StatSeen) (heard : List Heard) (stop : Stop)
     → IsPlan at told tells old new words plan → Moved told tells at faults (λ p. ⊥) old mid → Moved told tells at faults (IsWritten plan.manifest.commands starts) mid new
-    → AreStarts plan.manifest.commands plan.target.nodes starts → AreOrders plan.manifest.commands heard → AreInStep starts heard → HeardWell tells ended does new heard
+    → AreStarts plan.manifest.commands plan.target.nodes starts → AreOrders plan.manifest.commands heard → AreInStep starts heard → HeardWell tells ended does new heard → HeardStands at tells new heard
     → WroteStopped (IsNextStart plan.manifest.commands plan.target.nodes starts) (AllStarted plan.manifest.commands plan.target.nodes starts) bytes bytes' starts stop
     → IsBuildStop (faults mid) (faults new) sink sink' (Shows stats heard) plan.manifest.commands plan.target starts heard stop
     → unless_memory stop (ShownStands at tells new stats heard) → unless_memory stop (IsSingle (Shows stats heard))
     → unless_memory stop (AllReadFirst plan.manifest.commands (Shows stats heard) starts heard) → StopsAtMissing plan.manifest.commands plan.target (Shows stats heard) starts heard stop
     → Served at told tells faults ended does old new sink sink' bytes bytes' words starts stats heard (end_of stop)
-stopped_served at told tells faults ended does old mid new sink sink' bytes bytes' words plan starts stats heard stop is opened moved are orders step well wrote why stood single read missing = record {
+stopped_served at told tells faults ended does old mid new sink sink' bytes bytes' words plan starts stats heard stop is opened moved are orders step well outcomes wrote why stood single read missing = record {
+  outcomes = outcomes;
   stood = unless_end stop (ShownStands at tells new stats heard) stood;
   fresh = λ ok. absurd (stop_not_ok stop ok);
   once = unless_end stop (IsSingle (Shows stats heard)) single;
@@ -251,12 +254,13 @@ stopped_served at told tells faults ended does old mid new sink sink' bytes byte
 pub built_served : {D : Type 0} (at : D → List ℕ → Form → Info) (told : D → Type 0) (tells : D → List Known → Type 0) (faults : D → ℕ) (ended : Order → Exit → Type 0) (does : Does) (old mid new : D) (sink sink' : ℕ) (bytes bytes' : Option (List ℕ)) (words : List (List ℕ))
     (plan : Plan) (starts : List Start) (stats : List StatSeen) (heard : List Heard)
     → IsPlan at told tells old new words plan → Moved told tells at faults (λ p. ⊥) old mid → Moved told tells at faults (IsWritten plan.manifest.commands starts) mid new
-    → AreStarts plan.manifest.commands plan.target.nodes starts → AreOrders plan.manifest.commands heard → AreInStep starts heard → HeardWell tells ended does new heard
+    → AreStarts plan.manifest.commands plan.target.nodes starts → AreOrders plan.manifest.commands heard → AreInStep starts heard → HeardWell tells ended does new heard → HeardStands at tells new heard
     → Grew bytes bytes' (lines_of starts ++ summary_text (length starts)) → AllStarted plan.manifest.commands plan.target.nodes starts → AllDone heard → AllEnded starts heard → ShownStands at tells new stats heard
     → IsSingle (Shows stats heard) → AllReadFirst plan.manifest.commands (Shows stats heard) starts heard → WereRead (Shows stats heard) plan.target.nodes
     → ((m : List Known) → tells new m → AreFresh does m (at new) plan.manifest.commands (sights_of stats) plan.target.nodes)
     → Served at told tells faults ended does old new sink sink' bytes bytes' words starts stats heard ends.Ok
-built_served at told tells faults ended does old mid new sink sink' bytes bytes' words plan starts stats heard is opened moved are orders step well wrote all done every stood single read nodes fresh = record {
+built_served at told tells faults ended does old mid new sink sink' bytes bytes' words plan starts stats heard is opened moved are orders step well outcomes wrote all done every stood single read nodes fresh = record {
+  outcomes = outcomes;
   stood = λ n. stood;
   fresh = λ ok m t. record { plan = plan; is = is; holds = fresh m t };
   once = λ n. single;
@@ -308,6 +312,7 @@ told_served at told tells faults ended does old new sink sink' bytes bytes' word
 told_served at told tells faults ended does old new sink sink' bytes bytes' words starts stats heard end final (inr none) s =
     subst (λ (e : End NoFault). Served at told tells faults ended does old new sink sink' bytes bytes' words starts stats heard e) (sym none) (record {
       fresh = λ ok. cc ok;
+      outcomes = s.outcomes;
       once = λ n. absurd (n refl);
       inputs = λ n. absurd (n refl);
       started = s.started;

@@ -26,7 +26,7 @@ use Rattle.llbuild_cli.specs.Moved.{Moved}
 use Rattle.llbuild_cli.specs.Heard.{HeardWell, IsGiven, IsLawful, contents_of}
 use Rattle.llbuild_cli.specs.Reading.{AreRead}
 use Rattle.llbuild_cli.specs.Settled.{AllNoted, SettledDone}
-use Rattle.llbuild_cli.specs.Shows.{GivesInfo, WasHeard, ShownStands}
+use Rattle.llbuild_cli.specs.Shows.{GivesInfo, WasHeard, ShownStands, HeardStands}
 use Rattle.llbuild_cli.specs.Ready.{AllKnown, IsInput, IsOutput, IsSound, SeenStands, ReadsStand, IsOrderFor, Ran, contents_made, DidLaw}
 use Rattle.llbuild_cli.proofs.Going.{looked_on}
 use Rattle.llbuild_cli.proofs.Inputs.{input_of}
@@ -214,3 +214,26 @@ ran_shown {at} {tells} {v} {a} c law unseen known stands moved ran m t p i s =
         | inr o ↦ ran.stand (law m t) p i o.0 o.1
       ]
     ]
+
+-- what the outcomes have stands where a command wrote its outputs alone, and no more was heard of paths
+pub outcomes_moved : {D : Type 0} {at : D → List ℕ → Form → Info} {told : D → Type 0} {tells : D → List Known → Type 0} {faults : D → ℕ} {w v : D} (a : Seen) (c : Command) (then : List Heard)
+    → ((m : List Known) → tells v m → told v) → ((p : List ℕ) → IsOutput c p → known a p ≡ None) → AllKnown a → SeenStands at tells w a
+    → Moved told tells at faults (IsOutput c) w v → ((p : List ℕ) (i : Info) → WasHeard then p i → WasHeard a.heard p i) → HeardStands at tells v then
+outcomes_moved a c then law unseen all stands moved less m t p i was =
+    let k = all p i (inr (less p i was)) in
+    moved.same (law m t) p Follow (λ o. (let n = unseen p o in cc)) ∙ stands m (moved.keeps.contents m t) p i k
+
+pub was_same : {heard then : List Heard} → then ≡ heard → (p : List ℕ) (i : Info) → WasHeard then p i → WasHeard heard p i
+was_same same p i was = subst (λ (hs : List Heard). WasHeard hs p i) same was
+
+-- the outcomes of a report that stands stand
+pub outcomes_shown : {D : Type 0} (at : D → List ℕ → Form → Info) (tells : D → List Known → Type 0) (w : D) (stats : List StatSeen) (heard : List Heard) → ShownStands at tells w stats heard → HeardStands at tells w heard
+outcomes_shown at tells w stats heard shown m t p i was = shown m t p i (inr was)
+
+pub outcomes_none : {D : Type 0} (at : D → List ℕ → Form → Info) (tells : D → List Known → Type 0) (w : D) (heard : List Heard) → heard ≡ [] → HeardStands at tells w heard
+outcomes_none at tells w heard none m t p i was = absurd (subst (λ (hs : List Heard). In was.0 hs) none was.1.0)
+
+-- the outcomes stand on where nothing is written
+pub outcomes_on : {D : Type 0} {at : D → List ℕ → Form → Info} {told : D → Type 0} {tells : D → List Known → Type 0} {faults : D → ℕ} {w v : D} {heard then : List Heard}
+    → ((m : List Known) → tells v m → told v) → Moved told tells at faults (λ p. ⊥) w v → then ≡ heard → HeardStands at tells w heard → HeardStands at tells v then
+outcomes_on law moved same old m t p i was = moved.same (law m t) p Follow (λ n. n) ∙ old m (moved.keeps.contents m t) p i (was_same same p i was)

@@ -18,12 +18,13 @@ use Rattle.llbuild_cli.specs.Heard.{HeardWell, AreInStep}
 use Rattle.llbuild_cli.specs.Moved.{Moved}
 use Rattle.llbuild_cli.specs.Printed.{Wrote}
 use Rattle.llbuild_cli.specs.Seen.{sights_of}
-use Rattle.llbuild_cli.specs.Shows.{Shows, ShownStands, IsSingle}
+use Rattle.llbuild_cli.specs.Shows.{Shows, ShownStands, HeardStands, IsSingle}
 
 -- all that is said of a run, where it ends so
 pub record Served {D : Type 0} (at : D → List ℕ → Form → Info) (told : D → Type 0) (tells : D → List Known → Type 0) (faults : D → ℕ) (ended : Order → Exit → Type 0) (does : Does)
     (old new : D) (sink sink' : ℕ) (bytes bytes' : Option (List ℕ)) (words : List (List ℕ)) (starts : List Start) (stats : List StatSeen) (heard : List Heard) (end : End NoFault) : Type 0 where
   pub fresh : end ≡ ends.Ok → (m : List Known) → tells new m → WithPlan at told tells old new words (λ plan. AreFresh does m (at new) plan.manifest.commands (sights_of stats) plan.target.nodes)
+  pub outcomes : HeardStands at tells new heard
   pub once : (end ≡ ends.NoMemory → ⊥) → IsSingle (Shows stats heard)
   pub started : StartedOnly at told tells old new words starts heard
   pub step : AreInStep starts heard

@@ -28,6 +28,10 @@ Shows stats heard p i = In (p, i) (sights_of stats) ⊎ WasHeard heard p i
 abbrev pub ShownStands : {D : Type 0} → (D → List ℕ → Form → Info) → (D → List Known → Type 0) → D → List StatSeen → List Heard → Type 0
 ShownStands at tells world stats heard = (m : List Known) → tells world m → (p : List ℕ) (i : Info) → Shows stats heard p i → at world p Follow ≡ i
 
+-- what the outcomes have of outputs stands, where the world tells
+abbrev pub HeardStands : {D : Type 0} → (D → List ℕ → Form → Info) → (D → List Known → Type 0) → D → List Heard → Type 0
+HeardStands at tells world heard = (m : List Known) → tells world m → (p : List ℕ) (i : Info) → WasHeard heard p i → at world p Follow ≡ i
+
 -- no path is seen with two informations
 abbrev pub IsSingle : (List ℕ → Info → Type 0) → Type 0
 IsSingle seen = (p : List ℕ) (i j : Info) → seen p i → seen p j → i ≡ j

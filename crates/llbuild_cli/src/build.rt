@@ -14,7 +14,7 @@ ghost use Rattle.llbuild_cli.specs.Printed.{WroteStopped};
 ghost use Rattle.llbuild_cli.specs.Ready.{AllKnown, AllShown, IsInput, IsSound, IsOutput, SeenStands, Ran};
 ghost use Rattle.llbuild_cli.specs.Reading.{WereRead};
 ghost use Rattle.llbuild_cli.specs.Seen.{IsUnused, known, Knows, sights_of};
-ghost use Rattle.llbuild_cli.specs.Shows.{Shows, ShownStands, IsSingle};
+ghost use Rattle.llbuild_cli.specs.Shows.{Shows, ShownStands, HeardStands, IsSingle};
 ghost use Rattle.llbuild_cli.specs.Stands.{Stands};
 ghost use Rattle.llbuild_cli.specs.Started.{AreStarts, AllStarted, IsNextStart, start_of, starts_of};
 ghost use Rattle.llbuild_cli.specs.Stops.{ButForMemory, AskedBefore};
@@ -60,6 +60,7 @@ fn run_one<L: Law, W: World<L>, O: Sink>(
     ensures announced { OnOk result (Announced command.now (O.bytes out.old) (O.bytes out.new) seen.old.starts seen.new.starts) }
     ensures done { OnOk result (DoneOne command.now seen.old.heard seen.new.heard) }
     ensures stood { ButForMemory result (ShownStands W.at W.tells world.new seen.new.stats seen.new.heard) }
+    ensures outcomes { HeardStands W.at W.tells world.new seen.new.heard }
     ensures came { IfErr result (CameTo command.now (O.bytes out.old) (O.bytes out.new) seen.old.starts seen.new.starts) }
     ensures stop { IfErr result (IsRunStop (W.faults world.old) (W.faults world.new) (O.faults out.old) (O.faults out.new) (Shows seen.new.stats seen.new.heard) command.now seen.old.heard seen.new.heard) }
     ensures heard { HeardWell W.tells W.ended L.does world.new seen.new.heard }
@@ -97,6 +98,7 @@ fn run_all<L: Law, W: World<L>, O: Sink>(
     ensures done { OnOk result (AllDone seen.new.heard) }
     ensures ended { OnOk result (AllEnded seen.new.starts seen.new.heard) }
     ensures stood { ButForMemory result (ShownStands W.at W.tells world.new seen.new.stats seen.new.heard) }
+    ensures outcomes { HeardStands W.at W.tells world.new seen.new.heard }
     ensures starts { AreStarts manifest.now.commands target.now.nodes seen.new.starts }
     ensures step { AreInStep seen.new.starts seen.new.heard }
     ensures orders { AreOrders manifest.now.commands seen.new.heard }
@@ -176,6 +178,7 @@ pub fn build<L: Law, W: World<L>, O: Sink>(
     ensures done { OnOk result (AllDone seen.new.heard) }
     ensures ended { OnOk result (AllEnded seen.new.starts seen.new.heard) }
     ensures stood { ButForMemory result (ShownStands W.at W.tells world.new seen.new.stats seen.new.heard) }
+    ensures outcomes { HeardStands W.at W.tells world.new seen.new.heard }
     ensures wrote { OnOk result (Grew (O.bytes out.old) (O.bytes out.new) (lines_of seen.new.starts ++ summary_text (length seen.new.starts))) }
     ensures part { IfErr result (WroteStopped (IsNextStart manifest.now.commands target.now.nodes seen.new.starts) (AllStarted manifest.now.commands target.now.nodes seen.new.starts) (O.bytes out.old) (O.bytes out.new) seen.new.starts) }
     ensures stop { IfErr result (IsBuildStop (W.faults world.old) (W.faults world.new) (O.faults out.old) (O.faults out.new) (Shows seen.new.stats seen.new.heard) manifest.now.commands target.now seen.new.starts seen.new.heard) }

@@ -11,7 +11,7 @@ ghost use Rattle.llbuild_cli.specs.Moved.{Moved};
 ghost use Rattle.llbuild_cli.specs.Printed.{Wrote};
 ghost use Rattle.llbuild_cli.specs.Seen.{sights_of, IsUnused};
 ghost use Rattle.llbuild_cli.specs.Serving.{Served};
-ghost use Rattle.llbuild_cli.specs.Shows.{Shows, ShownStands, IsSingle};
+ghost use Rattle.llbuild_cli.specs.Shows.{Shows, ShownStands, HeardStands, IsSingle};
 ghost use Rattle.llbuild_cli.specs.Status.{status_of};
 ghost use Rattle.llbuild_cli.specs.Texts.{failure_text};
 ghost use Rattle.llbuild_cli.specs.Words.{job_of};
@@ -111,6 +111,7 @@ pub fn run_alone<L: Law, W: World<L>, O: Sink, E: Sink>(
     ensures begins { W.begins world.new ≤ W.begins world.old + length result.report.starts }
     ensures none { W.orders world.new ≡ [] }
     ensures stood { (result.report.end ≡ End.NoMemory → ⊥) → ShownStands W.at W.tells world.new result.report.stats result.report.heard }
+    ensures outcomes { HeardStands W.at W.tells world.new result.report.heard }
     ensures heard { HeardWell W.tells W.ended L.does world.new result.report.heard }
     ensures step { AreInStep result.report.starts result.report.heard }
     ensures status { result.status ≡ status_of result.report.end }

@@ -24,6 +24,7 @@ use Rattle.llbuild_cli.proofs.Runs.{stands_shown}
 use Rattle.llbuild_cli.proofs.Asking.{asked_on, finish_missing, first_looked_on, single_known}
 use Rattle.llbuild_cli.proofs.Ones.{known_looked}
 use Rattle.llbuild_cli.proofs.Inputs.{all_read_on}
+use Rattle.llbuild_cli.proofs.Ones.{outcomes_none, outcomes_on}
 use Rattle.llbuild_cli.proofs.Starting.{all_started}
 use Rattle.llbuild_cli.proofs.Steps.{stands_looked}
 use Rattle.llbuild_cli.proofs.Stopping.{no_part, finish_part, finish_stopped, shown_looked, no_orders}
@@ -224,3 +225,12 @@ returns-in_err-finish-clause-missing g c =
     (finish_stopped (g.W.Disk.faults c.args.world.now) (g.W.Disk.faults c.run_all.new.world) (g.W.Disk.faults c.finish.new.world) (g.O.Sink.faults c.args.out.now) (g.O.Sink.faults c.run_all.new.out) (g.O.Sink.faults c.finish.new.out)
     (g.O.Sink.bytes c.run_all.new.out) (g.O.Sink.bytes c.finish.new.out) _ _ _ commands target c.run_all.new.seen c.finish.new.seen _ stop
     c.in_ok-run_all.ensures.stands.shown runs.heard c.in_err-finish.ensures.looked all done ended c.run_all.ensures.moved.later c.run_all.ensures.later c.in_err-finish.ensures.stop))
+
+pub returns-in_err-marks-clause-outcomes : goal.returns-in_err-marks-clause-outcomes
+returns-in_err-marks-clause-outcomes g c = outcomes_none g.W.Disk.at g.W.Disk.tells c.args.world.now c.args.seen.now.heard c.requires.unseen.heard
+
+pub returns-in_err-finish-clause-outcomes : goal.returns-in_err-finish-clause-outcomes
+returns-in_err-finish-clause-outcomes g c = outcomes_on (g.met.W.Disk.tells_infos c.finish.new.world) c.finish.ensures.moved c.finish.ensures.runs.heard c.run_all.ensures.outcomes
+
+pub returns-clause-outcomes : goal.returns-clause-outcomes
+returns-clause-outcomes g c = outcomes_on (g.met.W.Disk.tells_infos c.finish.new.world) c.finish.ensures.moved c.finish.ensures.runs.heard c.run_all.ensures.outcomes

@@ -11,6 +11,7 @@ use Rattle.llbuild_cli.specs.Started.{start_of, AreStarts}
 use Rattle.llbuild_cli.proofs.Going.{if_err, but_err, unless_on, moved_both, moved_wider}
 use Rattle.llbuild_cli.proofs.Needs.{made_once, inputs_settled, outputs_unseen}
 use Rattle.llbuild_cli.proofs.Runs.{made_here, stands_ran, stands_skip, stands_shown}
+use Rattle.llbuild_cli.proofs.Ones.{outcomes_shown}
 use Rattle.llbuild_cli.proofs.Starting.{starts_more, starts_skip, are_starts, not_started}
 use Rattle.llbuild_cli.proofs.Stopping.{wrote_more, wrote_stopped, came_starts, starts_stopped, step_stopped, names_both, orders_one, orders_stopped, done_one, build_stopped, starts_grow, even_names, is_next}
 use Rattle.llbuild_cli.proofs.Asking.{first_more, run_missing, single_known}
@@ -329,3 +330,6 @@ returns-in_err-run_one-clause-missing g c =
 
 pub returns-clause-single : goal.returns-clause-single
 returns-clause-single g c = single_known c.commands.seen c.commands.invariant.stands.reported
+
+pub returns-clause-outcomes : goal.returns-clause-outcomes
+returns-clause-outcomes g c = outcomes_shown g.W.Disk.at g.W.Disk.tells c.commands.world c.commands.seen.stats c.commands.seen.heard (stands_shown c.commands.invariant.stands)

@@ -13,7 +13,7 @@ use Rattle.llbuild_cli.specs.Moved.{Moved}
 use Rattle.llbuild_cli.specs.Shows.{Shows}
 use Rattle.llbuild_cli.proofs.Going.{if_err, but_err, but_always, unless_on, moved_both, moved_wider}
 use Rattle.llbuild_cli.proofs.Inputs.{reads_fit}
-use Rattle.llbuild_cli.proofs.Ones.{seen_stands_looked, known_looked, shown_stands, seen_apart, stands_moved, ran_shown, known_ran, reads_stand, ran_one, did_on, heard_on, heard_more, lawful_done}
+use Rattle.llbuild_cli.proofs.Ones.{seen_stands_looked, known_looked, shown_stands, seen_apart, stands_moved, ran_shown, known_ran, outcomes_moved, outcomes_shown, was_same, reads_stand, ran_one, did_on, heard_on, heard_more, lawful_done}
 use Rattle.llbuild_cli.proofs.Stopping.{run_stopped, settle_stopped, heard_stopped, settle_shows, shown_looked}
 use Rattle.llbuild_cli.proofs.Asking.{asked_on, input_asked, disk_asked, sink_asked, settle_asked, first_looked, first_started, single_known, single_less, settle_orders, settle_kept, order_reads}
 use Rattle.llbuild_cli.proofs.Inputs.{all_read_on}
@@ -301,3 +301,43 @@ returns-clause-read g c =
       | inr k ↦ inr (ap (λ (x : Heard). x.order) (In-one k))
     ]))
     (single_known c.settle.new.seen (known_ran cmd c.requires.sound c.requires.unseen c.requires.known ran))
+
+pub returns-in_err-reads-clause-outcomes : goal.returns-in_err-reads-clause-outcomes
+returns-in_err-reads-clause-outcomes g c =
+    outcomes_moved c.args.seen.now c.args.command.now c.gather.new.seen.heard (g.met.W.Disk.tells_infos c.gather.new.world) c.requires.unseen c.requires.known c.requires.stands
+    (moved_wider (λ p n. absurd n) c.gather.ensures.moved)
+    (was_same c.gather.ensures.runs.heard)
+
+pub returns-in_err-ticket-clause-outcomes : goal.returns-in_err-ticket-clause-outcomes
+returns-in_err-ticket-clause-outcomes g c =
+    outcomes_moved c.args.seen.now c.args.command.now c.gather.new.seen.heard (g.met.W.Disk.tells_infos c.gather.new.world) c.requires.unseen c.requires.known c.requires.stands
+    (moved_wider (λ p n. absurd n) c.gather.ensures.moved)
+    (was_same c.gather.ensures.runs.heard)
+
+pub returns-in_err-ended-clause-outcomes : goal.returns-in_err-ended-clause-outcomes
+returns-in_err-ended-clause-outcomes g c =
+    outcomes_moved c.args.seen.now c.args.command.now c.gather.new.seen.heard (g.met.W.Disk.tells_infos c.execute.new.world) c.requires.unseen c.requires.known c.requires.stands
+    (moved_both (moved_wider (λ p n. absurd n) c.gather.ensures.moved) c.execute.ensures.moved)
+    (was_same c.gather.ensures.runs.heard)
+
+pub returns-in_err-settle-clause-outcomes : goal.returns-in_err-settle-clause-outcomes
+returns-in_err-settle-clause-outcomes g c =
+    outcomes_moved c.args.seen.now c.args.command.now c.settle.new.seen.heard (g.met.W.Disk.tells_infos c.settle.new.world) c.requires.unseen c.requires.known c.requires.stands
+    (moved_both (moved_wider (λ p n. absurd n) c.gather.ensures.moved) (moved_both c.execute.ensures.moved (moved_wider (λ p n. absurd n) c.settle.ensures.moved)))
+    (λ p i w. was_same c.gather.ensures.runs.heard p i (settle_shows (g.W.Disk.faults c.execute.new.world) (g.W.Disk.faults c.settle.new.world) c.in_ok-ended.ended c.gather.new.seen.heard c.settle.new.seen.heard c.in_err-settle.field-0.0 c.in_err-settle.ensures.stop p i w))
+
+pub returns-clause-outcomes : goal.returns-clause-outcomes
+returns-clause-outcomes g c =
+    let cmd = c.args.command.now in
+    let reads = c.in_ok-reads.reads in
+    let looked = c.in_ok-reads.ensures.looked in
+    let ended = c.in_ok-ended.ended in
+    let stands : SeenStands g.W.Disk.at g.W.Disk.tells c.gather.new.world c.gather.new.seen =
+    seen_stands_looked (g.met.W.Disk.tells_infos c.gather.new.world) c.requires.stands c.gather.ensures.moved looked in
+    let ran : Ran g.W.Disk.at g.W.Disk.told g.W.Disk.tells g.L.Law.does cmd c.settle.new.world c.args.seen.now c.settle.new.seen =
+    ran_one cmd reads ended.order (g.met.W.Disk.tells_infos c.settle.new.world) c.requires.sound looked c.gather.ensures.runs.heard (λ p. refl) refl refl
+    c.in_ok-reads.ensures.reads c.execute.ensures.moved c.settle.ensures.moved c.in_ok-ended.ensures.order.outputs_are c.in_ok-settle.ensures.done
+    (λ m t. c.in_ok-ended.ensures.does m t c.in_ok-settle.ensures.exit (reads_stand g.W.Disk.at g.W.Disk.tells c.gather.new.world c.gather.new.seen cmd reads stands c.in_ok-reads.ensures.reads m (c.execute.ensures.moved.keeps.contents m t))) in
+    let moved : Moved g.W.Disk.told g.W.Disk.tells g.W.Disk.at g.W.Disk.faults (IsOutput cmd) c.args.world.now c.settle.new.world =
+    moved_both (moved_wider (λ p n. absurd n) c.gather.ensures.moved) (moved_both c.execute.ensures.moved (moved_wider (λ p n. absurd n) c.settle.ensures.moved)) in
+    outcomes_shown g.W.Disk.at g.W.Disk.tells c.settle.new.world c.settle.new.seen.stats c.settle.new.seen.heard (ran_shown cmd (g.met.W.Disk.tells_infos c.settle.new.world) c.requires.unseen c.requires.known c.requires.stands moved ran)

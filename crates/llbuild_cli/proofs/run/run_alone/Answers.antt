@@ -109,3 +109,11 @@ returns-clause-inputs g c =
     (g.O.Sink.bytes c.args.out.now) (g.O.Sink.bytes c.serve-served.new.out) (map (string_bytes {Z = Global}) c.args.words.now) c.serve-served.new.seen.starts c.serve-served.new.seen.stats c.serve-served.new.seen.heard
     (end_in c.serve-served.result) c.tell-end.result tells c.serve-served.ensures.served in
     served.inputs
+
+pub returns-clause-outcomes : goal.returns-clause-outcomes
+returns-clause-outcomes g c =
+    let tells : (c.tell-end.result ≡ end_in c.serve-served.result) ⊎ (c.tell-end.result ≡ NoMemory) = elim c.tell-end.ensures.end [ inl e ↦ inl (e ∙ c.end_of.ensures) | inr e ↦ inr e ] in
+    let served = told_served g.W.Disk.at g.W.Disk.told g.W.Disk.tells g.W.Disk.faults g.W.World.ended g.L.Law.does c.args.world.now c.serve-served.new.world (g.O.Sink.faults c.args.out.now) (g.O.Sink.faults c.serve-served.new.out)
+    (g.O.Sink.bytes c.args.out.now) (g.O.Sink.bytes c.serve-served.new.out) (map (string_bytes {Z = Global}) c.args.words.now) c.serve-served.new.seen.starts c.serve-served.new.seen.stats c.serve-served.new.seen.heard
+    (end_in c.serve-served.result) c.tell-end.result tells c.serve-served.ensures.served in
+    served.outcomes

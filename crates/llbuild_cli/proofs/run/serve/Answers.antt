@@ -69,7 +69,7 @@ returns-in-Some-clause-served g c =
     let ok = c.in_ok-build-in-Some.ensures in
     built_served g.W.Disk.at g.W.Disk.told g.W.Disk.tells g.W.Disk.faults g.W.World.ended g.L.Law.does c.args.world.now c.open.new.world c.build.new.world (g.O.Sink.faults c.args.out.now) (g.O.Sink.faults c.build.new.out)
     (g.O.Sink.bytes c.args.out.now) (g.O.Sink.bytes c.build.new.out) (map (string_bytes {Z = Global}) c.args.words.now) plan c.build.new.seen.starts c.build.new.seen.stats c.build.new.seen.heard is c.open.ensures.moved c.build.ensures.moved
-    c.build.ensures.starts c.build.ensures.orders c.build.ensures.step c.build.ensures.heard ok.wrote ok.all ok.done ok.ended ok.stood ok.single ok.read ok.nodes (λ m t. ok.fresh m t)
+    c.build.ensures.starts c.build.ensures.orders c.build.ensures.step c.build.ensures.heard c.build.ensures.outcomes ok.wrote ok.all ok.done ok.ended ok.stood ok.single ok.read ok.nodes (λ m t. ok.fresh m t)
 
 pub returns-in_err-build-in-Some-clause-served : goal.returns-in_err-build-in-Some-clause-served
 returns-in_err-build-in-Some-clause-served g c =
@@ -87,5 +87,5 @@ returns-in_err-build-in-Some-clause-served g c =
     subst (λ (r : Result (Unit {0}) (End NoFault)). is (end_in r)) (sym same)
     (stopped_served g.W.Disk.at g.W.Disk.told g.W.Disk.tells g.W.Disk.faults g.W.World.ended g.L.Law.does c.args.world.now c.open.new.world c.build.new.world (g.O.Sink.faults c.args.out.now) (g.O.Sink.faults c.build.new.out)
     (g.O.Sink.bytes c.args.out.now) (g.O.Sink.bytes c.build.new.out) (map (string_bytes {Z = Global}) c.args.words.now) plan c.build.new.seen.starts c.build.new.seen.stats c.build.new.seen.heard stop planned c.open.ensures.moved c.build.ensures.moved
-    c.build.ensures.starts c.build.ensures.orders c.build.ensures.step c.build.ensures.heard c.in_err-build-in-Some.ensures.part c.in_err-build-in-Some.ensures.stop c.in_err-build-in-Some.ensures.stood
+    c.build.ensures.starts c.build.ensures.orders c.build.ensures.step c.build.ensures.heard c.build.ensures.outcomes c.in_err-build-in-Some.ensures.part c.in_err-build-in-Some.ensures.stop c.in_err-build-in-Some.ensures.stood
     c.in_err-build-in-Some.ensures.single c.in_err-build-in-Some.ensures.read c.in_err-build-in-Some.ensures.missing)
