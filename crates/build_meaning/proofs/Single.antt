@@ -1,17 +1,16 @@
 -- A path has one fresh content at most, and what is fresh stays so as more is seen.
 use Rattle.std.proofs.Common.{◌≡◌, ℕ, zero, suc, List, [], ◌∷◌, map, refl, sym, ◌∙◌, ap, inl, inr}
 use Rattle.std.specs.Prelude.{slice_get, Some}
-use Rattle.file_info.specs.Content.{Content, ReadContent, Known, content, Absent}
+use Rattle.file_info.specs.Content.{Content, ReadContent, Known, content}
 use Rattle.file_info.specs.Lists.{In}
 use Rattle.file_info.specs.declared.info.Info.{Info}
 use Rattle.file_info.specs.declared.node.NodeName.{NodeName}
 use Rattle.file_info.specs.declared.node.NodeName.TheVariants.{Path}
 use Rattle.outside.specs.Formed.{paths_of}
 use Rattle.outside.specs.Meaning.{signature_of}
-use Rattle.outside.specs.Outcomes.{Agree}
 use Rattle.manifest_reader.specs.declared.command.Command.{Command}
 use Rattle.build_meaning.specs.Commands.{meaning_of}
-use Rattle.build_meaning.specs.Fresh.{Does, Sights, IsMade, Fresh, source, made, nodes_read, as_read}
+use Rattle.build_meaning.specs.Fresh.{Does, Sights, Fresh, source, made, nodes_read, as_read}
 use Rattle.build_meaning.specs.Unique.{HasOneMaker, SawOnce}
 
 -- more is seen

@@ -1,5 +1,5 @@
 -- What a command of a manifest means.
-use Rattle.std.specs.Prelude.{ℕ, Bool, List, [], ◌∷◌, map, Option, Some, None}
+use Rattle.std.specs.Prelude.{ℕ, Bool, List, [], map, Option, Some, None}
 use Rattle.file_info.specs.Content.{node_text}
 use Rattle.file_info.specs.declared.node.NodeName.{NodeName}
 use Rattle.outside.specs.declared.order.EnvText.{EnvText}

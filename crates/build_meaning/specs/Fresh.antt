@@ -1,5 +1,5 @@
 -- The content that a manifest and the sources give a path, by recursion over the manifest.
-use Rattle.std.specs.Prelude.{◌≡◌, ◌⊎◌, ℕ, List, [], ◌∷◌, map, slice_get, Some}
+use Rattle.std.specs.Prelude.{◌≡◌, ℕ, List, [], map, slice_get, Some}
 use Rattle.file_info.specs.Content.{Content, ReadContent, One, Known, content, Absent}
 use Rattle.file_info.specs.Lists.{In}
 use Rattle.file_info.specs.declared.info.Info.{Info}

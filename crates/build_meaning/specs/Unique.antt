@@ -1,9 +1,7 @@
 -- What makes a fresh content the only one.
-use Rattle.std.specs.Prelude.{◌≡◌, ℕ, List, [], slice_get, Some}
-use Rattle.file_info.specs.Content.{Content, ReadContent}
+use Rattle.std.specs.Prelude.{◌≡◌, ℕ, List, slice_get, Some}
 use Rattle.file_info.specs.Lists.{In}
 use Rattle.file_info.specs.declared.info.Info.{Info}
-use Rattle.file_info.specs.declared.node.NodeName.{NodeName}
 use Rattle.outside.specs.Formed.{paths_of}
 use Rattle.manifest_reader.specs.declared.command.Command.{Command}
 use Rattle.build_meaning.specs.Fresh.{Sights}

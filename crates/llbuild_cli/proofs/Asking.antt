@@ -1,10 +1,8 @@
 -- What a build met of inputs.
 use Rattle.std.proofs.Common.{◌≡◌, ◌⊎◌, ◌+◌, ℕ, List, [], ◌∷◌, ◌++◌, length, refl, sym, ◌∙◌, ap, inl, inr, subst, arith, length-append}
-use Rattle.std.specs.Prelude.{Option}
 use Rattle.file_info.specs.Lists.{In}
 use Rattle.file_info.specs.declared.info.Info.{Info}
 use Rattle.file_info.specs.declared.info.Info.TheVariants.{Missing}
-use Rattle.file_info.specs.declared.info.Form.{Form}
 use Rattle.file_info.specs.declared.node.NodeName.{NodeName}
 use Rattle.file_info.specs.declared.node.NodeName.TheVariants.{Path}
 use Rattle.file_info.specs.declared.node.Read.{Read}
@@ -20,24 +18,24 @@ use Rattle.llbuild_cli.specs.declared.report.Outcome.{Outcome}
 use Rattle.llbuild_cli.specs.declared.report.Outcome.TheVariants.{Failed}
 use Rattle.llbuild_cli.specs.declared.report.Start.{Start}
 use Rattle.llbuild_cli.specs.declared.report.StatSeen.{StatSeen}
-use Rattle.llbuild_cli.specs.declared.seen.Seen.{Seen}
 use Rattle.llbuild_cli.specs.declared.stop.Stop.{Stop}
 use Rattle.llbuild_cli.specs.declared.stop.Stop.TheVariants.{CommandFailed, MissingInput, DiskFault, SinkFault, NoMemory}
 use Rattle.llbuild_cli.specs.Asked.{IsNext, IsAsker, IsStuck, StopsAtMissing, IsStartOn, IsOrderOn, ReadFirst, AllReadFirst}
 use Rattle.llbuild_cli.specs.Built.{CameTo, IsRunStop, IsLastFailed, IsBuildStop}
 use Rattle.llbuild_cli.specs.Heard.{IsDone, AllDone, AllEnded, heard_names}
-use Rattle.llbuild_cli.specs.Looked.{Looked, SameRuns}
 use Rattle.llbuild_cli.specs.Reading.{SeenAs, IsRead, AreRead, IsFirstMissing, IsUnseen, IsFirstUnseen, WereRead}
-use Rattle.llbuild_cli.specs.Ready.{AllKnown, AllShown, IsOrderFor}
-use Rattle.llbuild_cli.specs.Seen.{known, Knows, sights_of}
-use Rattle.llbuild_cli.specs.Shows.{WasHeard, Shows, IsSingle}
 use Rattle.llbuild_cli.specs.Started.{start_of, AllStarted}
 use Rattle.llbuild_cli.specs.Settled.{IsSettleStop}
-use Rattle.llbuild_cli.specs.Stops.{unless_memory, IsDiskStop, IsSinkStop, IsInputStop, AskedBefore}
 use Rattle.llbuild_cli.proofs.Inputs.{SeesAll, read_of, all_read_on}
-use Rattle.llbuild_cli.proofs.Ones.{known_looked}
 use Rattle.llbuild_cli.proofs.Starting.{start_names}
-use Rattle.llbuild_cli.proofs.Stopping.{shown_looked, even_names}
+use Rattle.outside.specs.Telling.{DiskView, SinkView}
+use Rattle.llbuild_cli.specs.Ready.{IsOrderFor}
+use Rattle.llbuild_cli.specs.Journal.{Journal, Knows}
+use Rattle.llbuild_cli.specs.Shows.{Shows, IsSingle, sights_of}
+use Rattle.llbuild_cli.specs.Stops.{IsDiskStop, IsSinkStop, IsInputStop, AskedBefore}
+use Rattle.llbuild_cli.specs.Looked.{Looked}
+use Rattle.llbuild_cli.proofs.Stopping.{even_names}
+use Rattle.llbuild_cli.proofs.Going.{looked_kept}
 
 -- one of two splits of a list comes first, or both are at one place
 split_two : {A : Type 0} (xs ys : List A) (x y : A) (after behind : List A) → xs ++ x ∷ after ≡ ys ++ y ∷ behind → (In x ys) ⊎ ((In y xs) ⊎ (x ≡ y))
@@ -149,8 +147,8 @@ next_asks {c} next = inl (record { command = c; next = next; named = refl; input
 
 -- a build that stops at a command stops as it must where an input is missing
 pub run_missing : (disk disk' sink sink' : ℕ) (first last start end : ℕ) (commands : List Command) (target : TargetEntry) (c : Command) (seen : List ℕ → Info → Type 0)
-    (old new : Option (List ℕ)) (before after : List Start) (heard then : List Heard) (stop : Stop)
-    → (after ≡ before → IsNext commands target.nodes after c) → heard_names heard ≡ start_names before → unless_memory stop (IsSingle seen)
+    (old new : SinkView) (before after : List Start) (heard then : List Heard) (stop : Stop)
+    → (after ≡ before → IsNext commands target.nodes after c) → heard_names heard ≡ start_names before → IsSingle seen
     → CameTo c old new before after stop → IsRunStop disk disk' sink sink' seen c heard then stop → AskedBefore seen c.inputs (In (start_of c) after) stop
     → IsBuildStop first last start end seen commands target after then stop
     → StopsAtMissing commands target seen after then stop
@@ -175,7 +173,7 @@ target_asks all = inr (record { started = all; named = refl; inputs_are = refl }
 
 -- a build that stops behind its commands stops as it must where a node is missing
 pub finish_missing : (first last start end : ℕ) (commands : List Command) (target : TargetEntry) (seen : List ℕ → Info → Type 0) (starts : List Start) (heard : List Heard) (stop : Stop)
-    → AllStarted commands target.nodes starts → unless_memory stop (IsSingle seen) → AskedBefore seen target.nodes ⊥ stop
+    → AllStarted commands target.nodes starts → IsSingle seen → AskedBefore seen target.nodes ⊥ stop
     → IsBuildStop first last start end seen commands target starts heard stop
     → StopsAtMissing commands target seen starts heard stop
 finish_missing first last start end commands target seen starts heard (CommandFailed command exit) all single asked is asker node stuck done ended = absurd (failed_not_done heard command exit is.0 done)
@@ -186,33 +184,6 @@ finish_missing first last start end commands target seen starts heard DiskFault 
 ]
 finish_missing first last start end commands target seen starts heard SinkFault all single asked is asker node stuck done ended = absurd (read_not_stuck single (target_asks all) asked stuck)
 finish_missing first last start end commands target seen starts heard NoMemory all single asked is asker node stuck done ended = inr refl
-
--- a report that shows only what is known shows no path twice
-pub single_known : (s : Seen) → AllKnown s → IsSingle (Shows s.stats s.heard)
-single_known s known p i j a b = (let x = known p i a in let y = known p j b in cc)
-
-pub single_less : {narrow wide : List ℕ → Info → Type 0} → SeesAll narrow wide → IsSingle wide → IsSingle narrow
-single_less in_wide single p i j a b = single p i j (in_wide p i a) (in_wide p j b)
-
--- all that is known is shown, and nothing else
-unseen_on : {seen shown : List ℕ → Info → Type 0} {inputs : List Input} → SeesAll seen shown → SeesAll shown seen → IsFirstUnseen seen inputs → IsFirstUnseen shown inputs
-unseen_on more less u = record {
-  before = u.before;
-  input = u.input;
-  after = u.after;
-  inputs_are = u.inputs_are;
-  reads = u.reads;
-  there = all_read_on more u.before u.reads u.there;
-  unseen = record { path = u.unseen.path; node = u.unseen.node; unseen = λ i s. u.unseen.unseen i (less u.unseen.path i s) };
-}
-
-pub asked_on : (seen shown : List ℕ → Info → Type 0) (inputs : List Input) (narrow wide : Type 0) (stop : Stop) → unless_memory stop (SeesAll seen shown) → unless_memory stop (SeesAll shown seen) → (narrow → wide)
-    → AskedBefore seen inputs narrow stop → AskedBefore shown inputs wide stop
-asked_on seen shown inputs narrow wide (CommandFailed command exit) more less started asked = tt
-asked_on seen shown inputs narrow wide (MissingInput asker node) more less started asked = tt
-asked_on seen shown inputs narrow wide DiskFault more less started asked = elim asked [ inl u ↦ inl (unseen_on more less u) | inr s ↦ inr (started s) ]
-asked_on seen shown inputs narrow wide SinkFault more less started asked = (asked.0, all_read_on more inputs asked.0 asked.1)
-asked_on seen shown inputs narrow wide NoMemory more less started asked = tt
 
 -- an input stops what asks for it
 pub input_asked : (before now : ℕ) (asker : List ℕ) (seen : List ℕ → Info → Type 0) (inputs : List Input) (started : Type 0) (stop : Stop) → IsInputStop before now asker seen inputs stop → AskedBefore seen inputs started stop
@@ -250,13 +221,6 @@ none_first commands seen starts heard s h = record {
   orders = λ x i. absurd (subst (λ (hs : List Heard). In x hs) h i);
 }
 
--- what was shown is shown after some looks
-pub kept_looked : {told : Type 0} {at : List ℕ → Form → Info} {asked : List ℕ → Type 0} {a b : Seen} → b.heard ≡ a.heard → Looked told at asked a b → SeesAll (Shows a.stats a.heard) (Shows b.stats b.heard)
-kept_looked heard looked p i s = elim s [
-  | inl k ↦ inl (looked.sights_kept (p, i) k)
-  | inr w ↦ inr (subst (λ (hs : List Heard). WasHeard hs p i) (sym heard) w)
-]
-
 -- what was shown is shown where more orders ended
 heard_shows : (old new : List StatSeen) (heard then : List Heard) → new ≡ old → ((h : Heard) → In h heard → In h then) → SeesAll (Shows old heard) (Shows new then)
 heard_shows old new heard then stats more p i s = elim s [
@@ -265,36 +229,34 @@ heard_shows old new heard then stats more p i s = elim s [
 ]
 
 -- the command looked, and was not started
-pub first_looked : {told : Type 0} {at : List ℕ → Form → Info} {asked : List ℕ → Type 0} {a b : Seen} (c : Command) (starts : List Start)
-    → AllKnown a → starts ≡ a.starts → b.heard ≡ a.heard → Looked told at asked a b → ReadFirst c (Shows a.stats a.heard) (Shows b.stats b.heard) a.starts starts a.heard b.heard
-first_looked {a} {b} c starts known same heard looked = record {
-  kept = kept_looked heard looked;
-  single = single_known b (known_looked known heard looked);
+pub first_looked : {world : DiskView} {asked : List ℕ → Type 0} {a b : Journal} (c : Command) (starts : List Start)
+    → starts ≡ a.starts → Looked world asked a b → IsSingle (Knows b) → ReadFirst c (Knows a) (Knows b) a.starts starts a.heard b.heard
+first_looked {world} {asked} {a} {b} c starts same looked single = record {
+  kept = looked_kept looked;
+  single = single;
   starts = λ s i. inl (subst (λ (ss : List Start). In s ss) same i);
-  orders = λ h i. inl (subst (λ (hs : List Heard). In h hs) heard i);
+  orders = λ h i. inl (subst (λ (hs : List Heard). In h hs) looked.heard i);
 }
 
 -- the command read its inputs and was started, and its order may have ended
-pub first_started : {told : Type 0} {at : List ℕ → Form → Info} {asked : List ℕ → Type 0} {a b : Seen} (c : Command) (reads : List Read) (starts : List Start) (stats : List StatSeen) (then : List Heard)
-    → AllShown a → b.heard ≡ a.heard → Looked told at asked a b
-    → AreRead (Knows b) c.inputs reads → stats ≡ b.stats → starts ≡ a.starts ++ start_of c ∷ []
-    → ((h : Heard) → In h b.heard → In h then)
-    → ((h : Heard) → In h then → In h b.heard ⊎ ((h.order.command ≡ c.name) × (h.order.reads ≡ reads)))
-    → IsSingle (Shows stats then) → ReadFirst c (Shows a.stats a.heard) (Shows stats then) a.starts starts a.heard then
-first_started {a} {b} c reads starts stats then shown heard looked read same more kept orders single =
-    let sees : SeesAll (Shows b.stats b.heard) (Shows stats then) = heard_shows b.stats stats b.heard then same kept in
-    let all : SeesAll (Knows b) (Shows stats then) = (λ p i k. sees p i (shown_looked shown heard looked p i k)) in
-    let were : AreRead (Shows stats then) c.inputs reads = all_read_on all c.inputs reads read in
+pub first_started : {world : DiskView} {asked : List ℕ → Type 0} {a b : Journal} (c : Command) (reads : List Read) (d : Journal)
+    → Looked world asked a b → AreRead (Knows b) c.inputs reads → d.stats ≡ b.stats → d.starts ≡ a.starts ++ start_of c ∷ []
+    → ((h : Heard) → In h b.heard → In h d.heard)
+    → ((h : Heard) → In h d.heard → In h b.heard ⊎ ((h.order.command ≡ c.name) × (h.order.reads ≡ reads)))
+    → IsSingle (Knows d) → ReadFirst c (Knows a) (Knows d) a.starts d.starts a.heard d.heard
+first_started {world} {asked} {a} {b} c reads d looked read same more kept orders single =
+    let sees : SeesAll (Knows b) (Knows d) = heard_shows b.stats d.stats b.heard d.heard same kept in
+    let were : AreRead (Knows d) c.inputs reads = all_read_on sees c.inputs reads read in
     record {
-      kept = λ p i s. sees p i (kept_looked heard looked p i s);
+      kept = λ p i s. sees p i (looked_kept looked p i s);
       single = single;
       starts = λ s i. elim (In-either s a.starts (start_of c ∷ []) (subst (λ (ss : List Start). In s ss) more i)) [
         | inl k ↦ inl k
         | inr k ↦ inr (record { is = In-one k; read = (reads, were) })
       ];
       orders = λ h i. elim (orders h i) [
-        | inl k ↦ inl (subst (λ (hs : List Heard). In h hs) heard k)
-        | inr e ↦ inr (record { name = e.0; read = subst (λ (rs : List Read). AreRead (Shows stats then) c.inputs rs) (sym e.1) were })
+        | inl k ↦ inl (subst (λ (hs : List Heard). In h hs) looked.heard k)
+        | inr e ↦ inr (record { name = e.0; read = subst (λ (rs : List Read). AreRead (Knows d) c.inputs rs) (sym e.1) were })
       ];
     }
 
@@ -350,11 +312,11 @@ order_reads noted c ticket reads order h is (inl i) = inl i
 order_reads noted c ticket reads order h is (inr e) = inr (ap (λ (o : Order). o.command) e ∙ is.name, ap (λ (o : Order). o.reads) e ∙ is.reads_are)
 
 -- what holds of starts and ends holds after some looks
-pub first_looked_on : {told : Type 0} {at : List ℕ → Form → Info} {asked : List ℕ → Type 0} {commands : List Command} {a b : Seen} → SameRuns a b → Looked told at asked a b
-    → AllReadFirst commands (Shows a.stats a.heard) a.starts a.heard → AllReadFirst commands (Shows b.stats b.heard) b.starts b.heard
-first_looked_on {commands} {a} {b} runs looked all =
-    let more = all_first_on (kept_looked runs.heard looked) all in
+pub first_looked_on : {world : DiskView} {asked : List ℕ → Type 0} {commands : List Command} {a b : Journal} → Looked world asked a b
+    → AllReadFirst commands (Knows a) a.starts a.heard → AllReadFirst commands (Knows b) b.starts b.heard
+first_looked_on {commands} {a} {b} looked all =
+    let more = all_first_on (looked_kept looked) all in
     record {
-      started = λ s i. more.started s (subst (λ (ss : List Start). In s ss) runs.starts i);
-      orders = λ h i. more.orders h (subst (λ (hs : List Heard). In h hs) runs.heard i);
+      started = λ s i. more.started s (subst (λ (ss : List Start). In s ss) looked.starts i);
+      orders = λ h i. more.orders h (subst (λ (hs : List Heard). In h hs) looked.heard i);
     }

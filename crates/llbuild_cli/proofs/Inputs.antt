@@ -19,9 +19,9 @@ use Rattle.build_meaning.specs.Commands.{key_of, key_in}
 use Rattle.build_meaning.specs.Fresh.{nodes_read, as_read}
 use Rattle.llbuild_cli.specs.declared.stop.Stop.{Stop}
 use Rattle.llbuild_cli.specs.declared.stop.Stop.TheVariants.{CommandFailed, MissingInput, DiskFault, SinkFault, NoMemory}
-use Rattle.llbuild_cli.specs.Stops.{unless_memory, IsReadStop, IsInputStop}
 use Rattle.build_meaning.proofs.Ins.{In-map-back}
 use Rattle.llbuild_cli.specs.Reading.{SeenAs, IsRead, AreRead, IsFirstMissing}
+use Rattle.llbuild_cli.specs.Stops.{IsDiskStop, IsReadStop, IsInputStop}
 
 -- what is seen goes over into another way to see
 abbrev pub SeesAll : (List ℕ → Info → Type 0) → (List ℕ → Info → Type 0) → Type 0
@@ -183,9 +183,18 @@ file_seen {seen} m inputs reads h q y in_it =
       is = equal.1;
     }
 
+-- the disk stops the reading of an input of which nothing is known
+pub disk_read : (stop : Stop) (before now : ℕ) (asker : List ℕ) (seen : List ℕ → Info → Type 0) (input : Input) (path : List ℕ) → input.node ≡ Path path
+    → IsDiskStop before now stop → (stop ≡ DiskFault → (info : Info) → seen path info → ⊥) → IsReadStop before now asker seen input stop
+disk_read (CommandFailed command exit) before now asker seen input path node why unseen = why
+disk_read (MissingInput by name) before now asker seen input path node why unseen = absurd why
+disk_read DiskFault before now asker seen input path node why unseen = (why, record { path = path; node = node; unseen = unseen refl })
+disk_read SinkFault before now asker seen input path node why unseen = why
+disk_read NoMemory before now asker seen input path node why unseen = tt
+
 -- one of the inputs stops the reading of all
 pub read_stop : (stop : Stop) (first before now : ℕ) (asker : List ℕ) (old new : List ℕ → Info → Type 0) (passed : List Input) (input : Input) (rest inputs : List Input)
-    → inputs ≡ passed ++ input ∷ rest → (reads : List Read) → AreRead old passed reads → first ≤ before → unless_memory stop (SeesAll old new)
+    → inputs ≡ passed ++ input ∷ rest → (reads : List Read) → AreRead old passed reads → first ≤ before → SeesAll old new
     → IsReadStop before now asker new input stop → IsInputStop first now asker new inputs stop
 read_stop (CommandFailed command exit) first before now asker old new passed input rest inputs parts reads read later more why = why
 read_stop (MissingInput by node) first before now asker old new passed input rest inputs parts reads read later more why = (

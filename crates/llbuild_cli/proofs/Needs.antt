@@ -1,10 +1,9 @@
 -- What the rules of a manifest and its marks say of a command at its place.
-use Rattle.std.proofs.Common.{◌≡◌, ◌⊎◌, ◌<◌, ◌≤◌, ℕ, zero, suc, ◌+◌, Bool, true, List, [], ◌∷◌, map, length, drop, refl, sym, ◌∙◌, ap, inl, inr, subst, arith, suc-add, zero-add}
-use Rattle.std.specs.Prelude.{slice_get, Option, Some, None}
-use Rattle.file_info.specs.Content.{Known, node_text}
+use Rattle.std.proofs.Common.{◌≡◌, ◌⊎◌, ◌<◌, ◌≤◌, ℕ, zero, suc, ◌+◌, Bool, true, List, [], ◌∷◌, map, length, drop, sym, ◌∙◌, ap, inl, inr, subst, arith, suc-add, zero-add}
+use Rattle.std.specs.Prelude.{slice_get, Some}
+use Rattle.file_info.specs.Content.{node_text}
 use Rattle.file_info.specs.Lists.{In}
 use Rattle.file_info.specs.declared.info.Info.{Info}
-use Rattle.file_info.specs.declared.info.Form.{Form}
 use Rattle.file_info.specs.declared.node.NodeName.TheVariants.{Path}
 use Rattle.manifest_reader.specs.declared.command.Command.{Command}
 use Rattle.manifest_reader.specs.declared.command.Input.{Input}
@@ -15,11 +14,11 @@ use Rattle.build_meaning.specs.Needed.{IsNeeded, wants, needs, AreMarks}
 use Rattle.build_meaning.specs.Orderly.{AreOrderly}
 use Rattle.build_meaning.proofs.Ins.{get-less, In-index, In-get, get-map}
 use Rattle.build_meaning.proofs.Orderly.{made_path, one_place}
-use Rattle.llbuild_cli.specs.declared.seen.Seen.{Seen}
-use Rattle.llbuild_cli.specs.Seen.{known, Knows}
 use Rattle.llbuild_cli.specs.Ready.{IsInput, IsOutput}
 use Rattle.llbuild_cli.specs.Stands.{Stands}
 use Rattle.llbuild_cli.proofs.Steps.{In-drop, In-later}
+use Rattle.outside.specs.Telling.{DiskView}
+use Rattle.llbuild_cli.specs.Journal.{Journal, Knows, IsUnknown}
 
 pub get-drop : {A : Type 0} (xs : List A) (n j : ℕ) (x : A) → slice_get (drop n xs) j ≡ Some x → slice_get xs (n + j) ≡ Some x
 get-drop xs zero j x e = rw zero-add e
@@ -47,8 +46,8 @@ made_once commands place c p orderly at_place o h =
     absurd (omega arith)
 
 -- what is made of the inputs of a needed command was made before it
-pub inputs_settled : {D : Type 0} {at : D → List ℕ → Form → Info} {tells : D → List Known → Type 0} {does : Does} {commands : List Command} {marks : List Bool} {place : ℕ} {w : D} {a : Seen}
-    (wanted : List Input) → AreOrderly commands → AreMarks commands wanted marks → Stands at tells does commands marks place w a
+pub inputs_settled : {does : Does} {commands : List Command} {marks : List Bool} {place : ℕ} {w : DiskView} {a : Journal}
+    (wanted : List Input) → AreOrderly commands → AreMarks commands wanted marks → Stands does commands marks place w a
     → (c : Command) → slice_get commands place ≡ Some c → slice_get marks place ≡ Some true → ((i : Input) → In i c.inputs → IsFileInput i)
     → (p : List ℕ) → IsInput c.inputs p → IsMade commands p → (i : Info) × Knows a p i
 inputs_settled {commands} {marks} {place} wanted orderly are old c at_place marked files p is h =
@@ -66,8 +65,8 @@ inputs_settled {commands} {marks} {place} wanted orderly are old c at_place mark
     ]
 
 -- what is made of the nodes of the target was made
-pub nodes_settled : {D : Type 0} {at : D → List ℕ → Form → Info} {tells : D → List Known → Type 0} {does : Does} {commands : List Command} {marks : List Bool} {w : D} {a : Seen}
-    (wanted : List Input) → AreMarks commands wanted marks → Stands at tells does commands marks (length commands) w a
+pub nodes_settled : {does : Does} {commands : List Command} {marks : List Bool} {w : DiskView} {a : Journal}
+    (wanted : List Input) → AreMarks commands wanted marks → Stands does commands marks (length commands) w a
     → ((i : Input) → In i wanted → IsFileInput i)
     → (p : List ℕ) → IsInput wanted p → IsMade commands p → (i : Info) × Knows a p i
 nodes_settled {commands} {marks} wanted are old files p is h =
@@ -80,10 +79,7 @@ nodes_settled {commands} {marks} wanted are old files p is h =
     old.done j h.by p (get-less commands j h.by at_j) ((are.each j h.by at_j).1 maker) at_j h.output
 
 -- the outputs of a command were not seen before it ran
-pub outputs_unseen : {D : Type 0} {at : D → List ℕ → Form → Info} {tells : D → List Known → Type 0} {does : Does} {commands : List Command} {marks : List Bool} {place : ℕ} {w : D} {a : Seen}
-    → Stands at tells does commands marks place w a → (c : Command) → slice_get commands place ≡ Some c → (p : List ℕ) → IsOutput c p → known a p ≡ None
-outputs_unseen {commands} {place} {a} old c at_place p o = unseen (known a p) refl
-  where
-    unseen : (s : Option Info) → known a p ≡ s → known a p ≡ None
-    unseen None e = e
-    unseen (Some i) e = absurd (old.later p i e (record { by = c; named = In-later commands place place c at_place (omega arith); output = o }))
+pub outputs_unseen : {does : Does} {commands : List Command} {marks : List Bool} {place : ℕ} {w : DiskView} {a : Journal}
+    → Stands does commands marks place w a → (c : Command) → slice_get commands place ≡ Some c → (p : List ℕ) → IsOutput c p → IsUnknown a p
+outputs_unseen {commands} {place} {a} old c at_place p o i k =
+    old.later p i k (record { by = c; named = In-later commands place place c at_place (omega arith); output = o })

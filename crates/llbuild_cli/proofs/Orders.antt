@@ -69,7 +69,7 @@ did_step does m after c ticket reads order served is law unchanged =
     let deps : order.deps ≡ [] = is.is.deps ∙ no_deps c served in
     let found : IsFound m after order.deps [] = subst (λ (d : List (List ℕ)). IsFound m after d []) (sym deps) refl in
     let did = law (record { meaning = meaning_of c; is = is.is }) unchanged [] found in
-    let form = λ (p : List ℕ). followed order p served.words (spawns c order.act served is.is.act) is.no_links in
+    let form = λ (p : List ℕ). followed order p served.words (spawns c order.act served is.is.act) is.is.links in
     let outs : contents_at m after order ≡ contents_made m after c =
     map_same (λ (p : List ℕ). content m p (after p (output_form order p))) (λ (p : List ℕ). content m p (after p Follow)) order.outputs (λ p. ap (λ (f : Form). content m p (after p f)) (form p))
     ∙ ap (map (λ (p : List ℕ). content m p (after p Follow))) is.outputs_are in

@@ -1,5 +1,5 @@
 -- A command that ran leaves what stands, one place further.
-use Rattle.std.proofs.Common.{◌≡◌, ◌⊎◌, ◌<◌, ℕ, zero, suc, ◌+◌, Bool, true, false, List, [], drop, refl, sym, ◌∙◌, ap, inl, inr, subst, arith}
+use Rattle.std.proofs.Common.{◌≡◌, ℕ, ◌+◌, Bool, true, false, List, [], drop, sym, ◌∙◌, ap, inl, inr, subst, arith}
 use Rattle.std.specs.Prelude.{slice_get, Some}
 use Rattle.file_info.specs.Content.{Content, Known, content}
 use Rattle.file_info.specs.Lists.{In}
@@ -13,23 +13,17 @@ use Rattle.build_meaning.specs.Commands.{meaning_of}
 use Rattle.build_meaning.specs.Fresh.{Does, Sights, IsMade, Fresh, made}
 use Rattle.build_meaning.proofs.Ins.{In-index, In-get, get-map}
 use Rattle.build_meaning.proofs.Single.{Fresh-more}
-use Rattle.llbuild_cli.specs.declared.report.Heard.{Heard}
 use Rattle.llbuild_cli.specs.declared.report.StatSeen.{StatSeen}
-use Rattle.llbuild_cli.specs.declared.seen.Seen.{Seen}
-use Rattle.llbuild_cli.specs.Seen.{Knows, sights_of}
 use Rattle.llbuild_cli.specs.Moved.{Moved}
-use Rattle.llbuild_cli.specs.Shows.{WasHeard, ShownStands}
 use Rattle.llbuild_cli.specs.Ready.{IsInput, IsOutput, Ran, contents_made, DidLaw}
 use Rattle.llbuild_cli.specs.Stands.{Stands}
 use Rattle.llbuild_cli.proofs.Inputs.{files_read, read_files, read_nodes, file_seen, is_missing}
-use Rattle.llbuild_cli.proofs.Steps.{in_or_not, In-later, made_more, stands_looked}
-
--- below the next number is below this one, or is it
-pub split_last : (k n : ℕ) → k < n + 1 → (k < n) ⊎ (k ≡ n)
-split_last zero zero h = inr refl
-split_last zero (suc n) h = inl (omega arith)
-split_last (suc k) zero h = absurd (omega arith)
-split_last (suc k) (suc n) h = elim (split_last k n (omega arith)) [ inl l ↦ inl (omega arith) | inr e ↦ inr (ap suc e) ]
+use Rattle.outside.specs.Telling.{DiskView, Told, Tells}
+use Rattle.llbuild_cli.specs.Journal.{Journal, Knows}
+use Rattle.llbuild_cli.specs.Shows.{sights_of}
+use Rattle.llbuild_cli.proofs.Steps.{In-later, made_more, stands_looked}
+use Rattle.llbuild_cli.proofs.Journals.{split_last}
+use Rattle.llbuild_cli.proofs.Ones.{ran_knows, ran_kept, ran_gives}
 
 pub made_here : (commands : List Command) (place : ℕ) (c : Command) (p : List ℕ) → slice_get commands place ≡ Some c → IsOutput c p → IsMade (drop place commands) p
 made_here commands place c p at_place o = record { by = c; named = In-later commands place place c at_place (omega arith); output = o }
@@ -48,68 +42,47 @@ output_fresh {does} {m} {commands} {sights} {p} {x} seen at c reads named read f
     at_k
     (get-map (λ (q : List ℕ). content m q (at q Follow)) (paths_of c.outputs) k p at_k ∙ ap Some (sym is))
 
-pub stands_ran : {D : Type 0} {at : D → List ℕ → Form → Info} {told : D → Type 0} {tells : D → List Known → Type 0} {faults : D → ℕ} {does : Does}
-    {commands : List Command} {marks : List Bool} {place : ℕ} {w v : D} {a b : Seen}
-    → ((m : List Known) → tells v m → told v)
-    → Stands at tells does commands marks place w a
+pub stands_ran : {does : Does} {commands : List Command} {marks : List Bool} {place : ℕ} {w v : DiskView} {a b : Journal}
+    → ((m : List Known) → Tells v m → Told v)
+    → Stands does commands marks place w a
     → (c : Command) → slice_get commands place ≡ Some c
     → ((p : List ℕ) → IsOutput c p → IsMade (drop (place + 1) commands) p → ⊥)
     → ((p : List ℕ) → IsInput c.inputs p → IsMade commands p → (i : Info) × Knows a p i)
-    → Moved told tells at faults (IsOutput c) w v
-    → Ran at told tells does c v a b
-    → Stands at tells does commands marks (place + 1) v b
-stands_ran {D} {at} {told} {tells} {faults} {does} {commands} {marks} {place} {w} {v} {a} {b} law old c at_place once settled moved ran =
-    let mid : Stands at tells does commands marks place v ran.middle =
-    stands_looked law old moved (λ p i k o. old.later p i k (made_here commands place c p at_place o)) settled ran.looked ran.unheard in
-    let outs = paths_of c.outputs in
-    let back = λ (p : List ℕ) (i : Info) (n : IsOutput c p → ⊥) (e : Knows b p i). sym (ran.others p n) ∙ e in
+    → Moved (IsOutput c) w v
+    → Ran does c v a b
+    → Stands does commands marks (place + 1) v b
+stands_ran {does} {commands} {marks} {place} {w} {v} {a} {b} law old c at_place once settled moved ran =
+    let mid : Stands does commands marks place v ran.middle =
+    stands_looked old moved (λ p i k o. old.later p i k (made_here commands place c p at_place o)) settled ran.looked in
     let sees = λ (s : List ℕ × Info) (h : In s (sights_of ran.middle.stats)). subst (λ (stats : List StatSeen). In s (sights_of stats)) (sym ran.stats) h in
     record {
-      stand = λ m t p i e. elim (in_or_not p outs) [
-        | inl o ↦ ran.stand (law m t) p i o e
-        | inr n ↦ mid.stand m t p i (back p i n e)
+      stand = λ t p i k. elim (ran_knows ran p i k) [
+        | inl m ↦ mid.stand t p i m
+        | inr g ↦ (ran.gives p i g).1 t
       ];
-      fresh = λ m t p i e. elim (in_or_not p outs) [
-        | inl o ↦ output_fresh (Knows ran.middle) (at v) c ran.reads (In-get commands place c at_place) ran.are_read
-            (λ q j k. Fresh-more sees (mid.fresh m t q j k)) (ran.did m t) o (ap (content m p) (sym (ran.stand (law m t) p i o e)))
-        | inr n ↦ Fresh-more sees (mid.fresh m t p i (back p i n e))
+      fresh = λ m t p i k. elim (ran_knows ran p i k) [
+        | inl h ↦ Fresh-more sees (mid.fresh m t p i h)
+        | inr g ↦
+            (let out = ran.gives p i g in
+            output_fresh (Knows ran.middle) v.at c ran.reads (In-get commands place c at_place) ran.are_read
+            (λ q j h. Fresh-more sees (mid.fresh m t q j h)) (ran.did m t) out.0 (ap (content m p) (sym (out.1 (law m t)))))
       ];
-      done = λ k d p h marked at_k o. elim (in_or_not p outs) [
-        | inl q ↦ ran.outputs p q
-        | inr n ↦ elim (split_last k place h) [
-          | inl l ↦ (let was = mid.done k d p l marked at_k o in (was.0, ran.others p n ∙ was.1))
-          | inr e ↦ (let same : d ≡ c = (let x : slice_get commands place ≡ Some d = ap (slice_get commands) (sym e) ∙ at_k in cc) in absurd (n (subst (λ (z : Command). IsOutput z p) same o)))
-        ]
+      done = λ k d p h marked at_k o. elim (split_last k place h) [
+        | inl l ↦ (let was = mid.done k d p l marked at_k o in (was.0, ran_kept ran p was.0 was.1))
+        | inr e ↦
+            (let same : d ≡ c = (let x : slice_get commands place ≡ Some d = ap (slice_get commands) (sym e) ∙ at_k in cc) in
+            let r = ran.outputs p (subst (λ (z : Command). IsOutput z p) same o) in (r.0, ran_gives ran p r.0 r.1))
       ];
-      later = λ p i e h. elim (in_or_not p outs) [
-        | inl o ↦ once p o h
-        | inr n ↦ mid.later p i (back p i n e) (made_more place commands p h)
+      later = λ p i k h. elim (ran_knows ran p i k) [
+        | inl m ↦ mid.later p i m (made_more place commands p h)
+        | inr g ↦ once p (ran.gives p i g).0 h
       ];
-      reported = λ p i h. elim h [
-        | inl s ↦
-            (let k = mid.reported p i (inl (subst (λ (stats : List StatSeen). In (p, i) (sights_of stats)) ran.stats s)) in
-            ran.others p (λ o. mid.later p i k (made_here commands place c p at_place o)) ∙ k)
-        | inr w ↦ elim (ran.reports p i w) [
-          | inl v ↦
-              (let k = mid.reported p i (inr (subst (λ (hs : List Heard). WasHeard hs p i) (sym ran.unheard) v)) in
-              ran.others p (λ o. mid.later p i k (made_here commands place c p at_place o)) ∙ k)
-          | inr b ↦ b.1
-        ]
-      ];
-      shown = λ p i e. elim (in_or_not p outs) [
-        | inl o ↦ inr (ran.reported p i o e)
-        | inr n ↦ elim (mid.shown p i (back p i n e)) [
-          | inl s ↦ inl (sees (p, i) s)
-          | inr g ↦ inr (g.0, (ran.heard_kept g.0 (subst (λ (hs : List Heard). In g.0 hs) ran.unheard g.1.0), g.1.1))
-        ]
-      ];
+      sources = λ p i s h. mid.sources p i (subst (λ (stats : List StatSeen). In (p, i) (sights_of stats)) ran.stats s) h;
     }
 
 -- a command that is not marked is passed over
-pub stands_skip : {D : Type 0} {at : D → List ℕ → Form → Info} {tells : D → List Known → Type 0} {does : Does}
-    {commands : List Command} {marks : List Bool} {place : ℕ} {w : D} {seen : Seen}
-    → Stands at tells does commands marks place w seen → slice_get marks place ≡ Some false
-    → Stands at tells does commands marks (place + 1) w seen
+pub stands_skip : {does : Does} {commands : List Command} {marks : List Bool} {place : ℕ} {w : DiskView} {seen : Journal}
+    → Stands does commands marks place w seen → slice_get marks place ≡ Some false → Stands does commands marks (place + 1) w seen
 stands_skip {commands} {marks} {place} old unmarked = record {
   stand = old.stand;
   fresh = old.fresh;
@@ -118,11 +91,5 @@ stands_skip {commands} {marks} {place} old unmarked = record {
     | inr e ↦ (let x : slice_get marks place ≡ Some true = ap (slice_get marks) (sym e) ∙ marked in absurd (cc))
   ];
   later = λ p i e h. old.later p i e (made_more place commands p h);
-  reported = old.reported;
-  shown = old.shown;
+  sources = old.sources;
 }
-
--- what the report shows stands between two commands
-pub stands_shown : {D : Type 0} {at : D → List ℕ → Form → Info} {tells : D → List Known → Type 0} {does : Does} {commands : List Command} {marks : List Bool} {place : ℕ} {w : D} {seen : Seen}
-    → Stands at tells does commands marks place w seen → ShownStands at tells w seen.stats seen.heard
-stands_shown old m t p i s = old.stand m t p i (old.reported p i s)

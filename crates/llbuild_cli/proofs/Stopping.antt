@@ -1,30 +1,18 @@
 -- How a build stops at a command.
 use Rattle.std.proofs.Common.{◌≡◌, ◌⊎◌, ◌≤◌, ◌+◌, ℕ, zero, suc, List, [], ◌∷◌, ◌++◌, length, take, drop, refl, sym, ◌∙◌, ap, inl, inr, subst, arith, append_assoc, append-nil, zero-add}
 use Rattle.std.proofs.lemmas.List.{length-map}
-use Rattle.std.specs.Prelude.{slice_get, Option, Some, true}
 use Rattle.file_info.specs.Lists.{In}
 use Rattle.file_info.specs.declared.info.Info.{Info}
 use Rattle.manifest_reader.specs.declared.command.Command.{Command}
 use Rattle.manifest_reader.specs.declared.command.Input.{Input}
 use Rattle.manifest_reader.specs.declared.command.TargetEntry.{TargetEntry}
-use Rattle.outside.specs.Telling.{Rose, Grew}
 use Rattle.outside.specs.declared.order.Ended.{Ended}
 use Rattle.outside.specs.declared.order.Exit.{Exit}
 use Rattle.outside.specs.declared.order.Order.{Order}
-use Rattle.file_info.specs.Content.{Known}
-use Rattle.file_info.specs.declared.info.Form.{Form}
 use Rattle.file_info.specs.declared.node.Read.{Read}
 use Rattle.build_meaning.specs.Fresh.{Does}
 use Rattle.llbuild_cli.specs.declared.report.Outcome.TheVariants.{Failed}
-use Rattle.llbuild_cli.specs.declared.seen.Seen.{Seen}
-use Rattle.llbuild_cli.specs.Looked.{Looked}
-use Rattle.llbuild_cli.specs.Ready.{AllShown, IsOrderFor}
-use Rattle.llbuild_cli.specs.Seen.{Knows}
 use Rattle.llbuild_cli.specs.Settled.{IsSettleStop}
-use Rattle.llbuild_cli.specs.Shows.{GivesInfo, WasHeard, Shows}
-use Rattle.llbuild_cli.specs.Stops.{unless_memory, IsInputStop}
-use Rattle.llbuild_cli.proofs.Inputs.{first_missing_on}
-use Rattle.llbuild_cli.proofs.Ones.{heard_more}
 use Rattle.build_meaning.specs.Needed.{IsNeeded, AreMarks}
 use Rattle.build_meaning.specs.Orderly.{AreOrderly}
 use Rattle.build_meaning.proofs.Ins.{In-left, In-either, In-one, map-append}
@@ -41,6 +29,13 @@ use Rattle.llbuild_cli.specs.Written.{GrewByPart}
 use Rattle.llbuild_cli.specs.Texts.{line_of, lines_from, lines_of, summary_text}
 use Rattle.llbuild_cli.proofs.Sinks.{Grew-both}
 use Rattle.llbuild_cli.proofs.Starting.{start_names, starts_more, are_starts, not_started, was_started}
+use Rattle.std.specs.Prelude.{slice_get, Some, true}
+use Rattle.outside.specs.Telling.{Rose, Grew, DiskView, SinkView, Told, Keeps}
+use Rattle.llbuild_cli.specs.Ready.{IsOrderFor, IsEnded, ReadsStand}
+use Rattle.llbuild_cli.specs.Journal.{Journal, Knows}
+use Rattle.llbuild_cli.specs.Shows.{GivesInfo, WasHeard}
+use Rattle.llbuild_cli.specs.Stops.{IsInputStop}
+use Rattle.llbuild_cli.proofs.Ones.{heard_more, heard_same, given_one}
 
 -- a count that rose later rose from before
 Rose-last : (first before now : ℕ) → first ≤ before → Rose before now → Rose first now
@@ -56,20 +51,20 @@ lines_from_more n (x ∷ xs) s =
 pub lines_more : (starts : List Start) (s : Start) → lines_of (starts ++ s ∷ []) ≡ lines_of starts ++ line_of (length starts + 1) s
 lines_more starts s = lines_from_more 1 starts s
 
-pub wrote_more : (old mid new : Option (List ℕ)) (c : Command) (before after : List Start) → Grew old mid (lines_of before) → Announced c mid new before after
+pub wrote_more : (old mid new : SinkView) (c : Command) (before after : List Start) → Grew old mid (lines_of before) → Announced c mid new before after
     → Grew old new (lines_of after)
 wrote_more old mid new c before after wrote a =
     subst (λ (t : List ℕ). Grew old new t) (sym (ap lines_of a.more ∙ lines_more before (start_of c)))
     (Grew-both old mid new (lines_of before) (line_of (length before + 1) (start_of c)) wrote a.grew)
 
-wrote_same : (old mid new : Option (List ℕ)) (before after : List Start) → Grew old mid (lines_of before) → NotAnnounced mid new before after
+wrote_same : (old mid new : SinkView) (before after : List Start) → Grew old mid (lines_of before) → NotAnnounced mid new before after
     → Grew old new (lines_of after)
 wrote_same old mid new before after wrote a =
     subst (λ (t : List ℕ). Grew old new t) (append-nil (lines_of before) ∙ ap lines_of (sym a.same))
     (Grew-both old mid new (lines_of before) [] wrote a.grew)
 
 -- all lines, and no part of what is next
-pub no_part : (is_next : Start → Type 0) (is_last : Type 0) (old new : Option (List ℕ)) (starts : List Start) → Grew old new (lines_of starts) → WrotePart is_next is_last old new starts
+pub no_part : (is_next : Start → Type 0) (is_last : Type 0) (old new : SinkView) (starts : List Start) → Grew old new (lines_of starts) → WrotePart is_next is_last old new starts
 no_part is_next is_last old new starts grew = record {
   text = [];
   next = nothing;
@@ -78,7 +73,7 @@ no_part is_next is_last old new starts grew = record {
 }
 
 -- a part of the line of a start that is next
-line_part : (commands : List Command) (wanted : List Input) (is_last : Type 0) (old mid new : Option (List ℕ)) (c : Command) (before after : List Start) → Grew old mid (lines_of before)
+line_part : (commands : List Command) (wanted : List Input) (is_last : Type 0) (old mid new : SinkView) (c : Command) (before after : List Start) → Grew old mid (lines_of before)
     → In c commands → IsNeeded commands wanted c → (In (start_of c) before → ⊥) → PartAnnounced c mid new before after
     → WrotePart (IsNextStart commands wanted after) is_last old new after
 line_part commands wanted is_last old mid new c before after wrote named needed fresh part = record {
@@ -89,7 +84,7 @@ line_part commands wanted is_last old mid new c before after wrote named needed 
       (Grew-both old mid new (lines_of before) (take part.grew.0 (line_of (length before + 1) (start_of c))) wrote part.grew.1);
 }
 
-pub wrote_stopped : (commands : List Command) (wanted : List Input) (is_last : Type 0) (old mid new : Option (List ℕ)) (c : Command) (before after : List Start) (stop : Stop) → Grew old mid (lines_of before)
+pub wrote_stopped : (commands : List Command) (wanted : List Input) (is_last : Type 0) (old mid new : SinkView) (c : Command) (before after : List Start) (stop : Stop) → Grew old mid (lines_of before)
     → In c commands → IsNeeded commands wanted c → (In (start_of c) before → ⊥) → CameTo c mid new before after stop
     → WroteStopped (IsNextStart commands wanted after) is_last old new after stop
 wrote_stopped commands wanted is_last old mid new c before after (CommandFailed command exit) wrote named needed fresh came = wrote_more old mid new c before after wrote came
@@ -105,7 +100,7 @@ wrote_stopped commands wanted is_last old mid new c before after NoMemory wrote 
 ]
 
 -- the starts are those of before, or this one more
-pub came_starts : (c : Command) (old new : Option (List ℕ)) (before after : List Start) (stop : Stop) → CameTo c old new before after stop
+pub came_starts : (c : Command) (old new : SinkView) (before after : List Start) (stop : Stop) → CameTo c old new before after stop
     → (after ≡ before) ⊎ (after ≡ before ++ start_of c ∷ [])
 came_starts c old new before after (CommandFailed command exit) came = inr came.more
 came_starts c old new before after (MissingInput asker node) came = inl came.same
@@ -148,7 +143,7 @@ names_both c before after heard then names starts one =
 pub in_step : (starts : List Start) (heard : List Heard) → heard_names heard ≡ start_names starts → AreInStep starts heard
 in_step starts heard names = record { rest = []; names = sym names ∙ sym (append-nil (heard_names heard)); few = omega arith }
 
-pub step_stopped : (disk disk' sink sink' : ℕ) (shown : List ℕ → Info → Type 0) (c : Command) (old new : Option (List ℕ)) (before after : List Start) (heard then : List Heard) (stop : Stop)
+pub step_stopped : (disk disk' sink sink' : ℕ) (shown : List ℕ → Info → Type 0) (c : Command) (old new : SinkView) (before after : List Start) (heard then : List Heard) (stop : Stop)
     → heard_names heard ≡ start_names before → CameTo c old new before after stop → IsRunStop disk disk' sink sink' shown c heard then stop → AreInStep after then
 step_stopped disk disk' sink sink' shown c old new before after heard then (CommandFailed command exit) names came why = in_step after then (names_both c before after heard then names came.more why.1.one)
 step_stopped disk disk' sink sink' shown c old new before after heard then (MissingInput asker node) names came why = step_same before after heard then names came.same why.2
@@ -224,7 +219,7 @@ is_next commands wanted marks place c starts orderly are at_place marked was par
 }
 
 pub build_stopped : (first disk disk' start sink sink' : ℕ) (shown : List ℕ → Info → Type 0) (commands : List Command) (target : TargetEntry) (marks : List _) (place : ℕ) (c : Command)
-    (old new : Option (List ℕ)) (before after : List Start) (heard then : List Heard) (stop : Stop)
+    (old new : SinkView) (before after : List Start) (heard then : List Heard) (stop : Stop)
     → AreOrderly commands → AreMarks commands target.nodes marks → slice_get commands place ≡ Some c → slice_get marks place ≡ Some true
     → before ≡ starts_of (take place commands) marks → commands ≡ take place commands ++ c ∷ drop (place + 1) commands
     → first ≤ disk → start ≤ sink → AllDone heard → heard_names heard ≡ start_names before → CameTo c old new before after stop → IsRunStop disk disk' sink sink' shown c heard then stop
@@ -256,25 +251,14 @@ build_stopped first disk disk' start sink sink' shown commands target marks plac
 build_stopped first disk disk' start sink sink' shown commands target marks place c old new before after heard then NoMemory orderly are at_place marked was parts later slater done names came why =
     subst (λ (hs : List Heard). AllDone hs) (sym why) done
 
--- what was seen is shown after some looks
-pub shown_looked : {told : Type 0} {at : List ℕ → Form → Info} {asked : List ℕ → Type 0} {a b : Seen} → AllShown a → b.heard ≡ a.heard → Looked told at asked a b → AllShown b
-shown_looked {told} {at} {asked} {a} {b} shown heard looked p i e = elim (looked.came p i e) [
-  | inl k ↦ elim (shown p i k) [
-    | inl s ↦ inl (looked.sights_kept (p, i) s)
-    | inr h ↦ inr (subst (λ (hs : List Heard). WasHeard hs p i) (sym heard) h)
-  ]
-  | inr n ↦ inl n.sighted
-]
-
 -- an input stops its command
-pub run_stopped : (before now sink sink' : ℕ) (told : Type 0) (at : List ℕ → Form → Info) (asked : List ℕ → Type 0) (c : Command) (a b : Seen) (stop : Stop)
-    → AllShown a → b.heard ≡ a.heard → unless_memory stop (Looked told at asked a b) → IsInputStop before now c.name (Knows b) c.inputs stop
-    → IsRunStop before now sink sink' (Shows b.stats b.heard) c a.heard b.heard stop
-run_stopped before now sink sink' told at asked c a b (CommandFailed command exit) shown heard looked why = absurd why
-run_stopped before now sink sink' told at asked c a b (MissingInput asker node) shown heard looked why = (why.0, first_missing_on (shown_looked shown heard looked) why.1, heard)
-run_stopped before now sink sink' told at asked c a b DiskFault shown heard looked why = (why.0, heard)
-run_stopped before now sink sink' told at asked c a b SinkFault shown heard looked why = absurd why
-run_stopped before now sink sink' told at asked c a b NoMemory shown heard looked why = heard
+pub run_stopped : (before now sink sink' : ℕ) (c : Command) (a b : Journal) (stop : Stop) → b.heard ≡ a.heard → IsInputStop before now c.name (Knows b) c.inputs stop
+    → IsRunStop before now sink sink' (Knows b) c a.heard b.heard stop
+run_stopped before now sink sink' c a b (CommandFailed command exit) heard why = absurd why
+run_stopped before now sink sink' c a b (MissingInput asker node) heard why = (why.0, why.1, heard)
+run_stopped before now sink sink' c a b DiskFault heard why = (why.0, heard)
+run_stopped before now sink sink' c a b SinkFault heard why = absurd why
+run_stopped before now sink sink' c a b NoMemory heard why = heard
 
 -- the end of an order stops its command
 pub settle_stopped : (first before now sink sink' : ℕ) (shown : List ℕ → Info → Type 0) (c : Command) (ticket : ℕ) (reads : List Read) (ended : Ended) (heard noted then : List Heard) (stop : Stop)
@@ -299,26 +283,26 @@ settle_stopped first before now sink sink' shown c ticket reads ended heard note
 settle_stopped first before now sink sink' shown c ticket reads ended heard noted then NoMemory is number later same why = why ∙ same
 
 -- what was heard is well where the end of an order stopped its command
-pub heard_stopped : {D : Type 0} {tells : D → List Known → Type 0} {answered : Order → Exit → Type 0} {does : Does} {w : D}
-    (before now : ℕ) (ended : Ended) (noted then : List Heard) (stop : Stop)
-    → HeardWell tells answered does w noted → answered ended.order ended.exit → IsSettleStop before now ended noted then stop
-    → HeardWell tells answered does w then
-heard_stopped {tells} {answered} {does} {w} before now ended noted then (CommandFailed command exit) well given why =
-    subst (λ (hs : List Heard). HeardWell tells answered does w hs) (sym why.3)
-    (heard_more well (record { order = ended.order; outcome = Failed ended.exit }) (record { exit = ended.exit; answered = given; outcome = (refl, why.2) }) (λ m t. tt))
-heard_stopped before now ended noted then (MissingInput asker node) well given why = absurd why
-heard_stopped {tells} {answered} {does} {w} before now ended noted then DiskFault well given why = subst (λ (hs : List Heard). HeardWell tells answered does w hs) (sym why.1) well
-heard_stopped before now ended noted then SinkFault well given why = absurd why
-heard_stopped {tells} {answered} {does} {w} before now ended noted then NoMemory well given why = subst (λ (hs : List Heard). HeardWell tells answered does w hs) (sym why) well
+pub heard_stopped : {ended : DiskView → Order → Exit → Type 0} {does : Does} {g e v : DiskView} {c : Command} {ticket : ℕ} {reads : List Read}
+    (before now : ℕ) (x : Ended) (noted then : List Heard) (stop : Stop)
+    → HeardWell ended does v noted → IsEnded ended g e x → IsOrderFor c ticket reads x.order → (Told g → ReadsStand g.at reads) → Keeps g e → Keeps e v
+    → IsSettleStop before now x noted then stop → HeardWell ended does v then
+heard_stopped before now x noted then (CommandFailed command exit) well is order stands from keeps why =
+    let last : Heard = record { order = x.order; outcome = Failed x.exit } in
+    heard_same why.3 (heard_more well last (given_one last x refl (refl, why.2) is order stands from keeps) (λ m t. tt))
+heard_stopped before now x noted then (MissingInput asker node) well is order stands from keeps why = absurd why
+heard_stopped before now x noted then DiskFault well is order stands from keeps why = heard_same why.1 well
+heard_stopped before now x noted then SinkFault well is order stands from keeps why = absurd why
+heard_stopped before now x noted then NoMemory well is order stands from keeps why = heard_same why well
 
 pub starts_grow : (before after : List Start) (s x : Start) → (after ≡ before) ⊎ (after ≡ before ++ s ∷ []) → In x before → In x after
 starts_grow before after s x (inl same) i = subst (λ (ss : List Start). In x ss) (sym same) i
 starts_grow before after s x (inr more) i = subst (λ (ss : List Start). In x ss) (sym more) (In-left x before (s ∷ []) i)
 
-wrote_nothing : (old mid new : Option (List ℕ)) (starts : List Start) → Grew old mid (lines_of starts) → Grew mid new [] → Grew old new (lines_of starts)
+wrote_nothing : (old mid new : SinkView) (starts : List Start) → Grew old mid (lines_of starts) → Grew mid new [] → Grew old new (lines_of starts)
 wrote_nothing old mid new starts wrote none = subst (λ (t : List ℕ). Grew old new t) (append-nil (lines_of starts)) (Grew-both old mid new (lines_of starts) [] wrote none)
 
-summary_part : (is_next : Start → Type 0) (is_last : Type 0) (old mid new : Option (List ℕ)) (starts : List Start) → is_last → Grew old mid (lines_of starts) → GrewByPart mid new (summary_text (length starts))
+summary_part : (is_next : Start → Type 0) (is_last : Type 0) (old mid new : SinkView) (starts : List Start) → is_last → Grew old mid (lines_of starts) → GrewByPart mid new (summary_text (length starts))
     → WrotePart is_next is_last old new starts
 summary_part is_next is_last old mid new starts last wrote part = record {
   text = summary_text (length starts);
@@ -327,8 +311,8 @@ summary_part is_next is_last old mid new starts last wrote part = record {
   grew = Grew-both old mid new (lines_of starts) (take part.0 (summary_text (length starts))) wrote part.1;
 }
 
--- what was written where a build stopped behind its commands
-pub finish_part : (is_next : Start → Type 0) (is_last : Type 0) (disk disk' sink sink' : ℕ) (old mid new : Option (List ℕ)) (shown : List ℕ → Info → Type 0) (target : TargetEntry) (starts : List Start) (stop : Stop)
+-- what was written where a build stopped after its commands
+pub finish_part : (is_next : Start → Type 0) (is_last : Type 0) (disk disk' sink sink' : ℕ) (old mid new : SinkView) (shown : List ℕ → Info → Type 0) (target : TargetEntry) (starts : List Start) (stop : Stop)
     → is_last → Grew old mid (lines_of starts) → IsFinishStop disk disk' sink sink' mid new shown target (summary_text (length starts)) stop → WroteStopped is_next is_last old new starts stop
 finish_part is_next is_last disk disk' sink sink' old mid new shown target starts (CommandFailed command exit) last wrote why = absurd why
 finish_part is_next is_last disk disk' sink sink' old mid new shown target starts (MissingInput asker node) last wrote why = wrote_nothing old mid new starts wrote why.2
@@ -336,24 +320,20 @@ finish_part is_next is_last disk disk' sink sink' old mid new shown target start
 finish_part is_next is_last disk disk' sink sink' old mid new shown target starts SinkFault last wrote why = summary_part is_next is_last old mid new starts last wrote why.1
 finish_part is_next is_last disk disk' sink sink' old mid new shown target starts NoMemory last wrote why = summary_part is_next is_last old mid new starts last wrote why
 
--- why a build stopped behind its commands
-pub finish_stopped : (first disk disk' start sink sink' : ℕ) (mid new : Option (List ℕ)) (told : Type 0) (at : List ℕ → Form → Info) (asked : List ℕ → Type 0) (commands : List Command) (target : TargetEntry) (a b : Seen) (text : List ℕ) (stop : Stop)
-    → AllShown a → b.heard ≡ a.heard → unless_memory stop (Looked told at asked a b) → AllStarted commands target.nodes b.starts → AllDone b.heard → AllEnded b.starts b.heard
+-- why a build stopped after its commands
+pub finish_stopped : (first disk disk' start sink sink' : ℕ) (mid new : SinkView) (commands : List Command) (target : TargetEntry) (b : Journal) (text : List ℕ) (stop : Stop)
+    → AllStarted commands target.nodes b.starts → AllDone b.heard → AllEnded b.starts b.heard
     → first ≤ disk → start ≤ sink → IsFinishStop disk disk' sink sink' mid new (Knows b) target text stop
-    → IsBuildStop first disk' start sink' (Shows b.stats b.heard) commands target b.starts b.heard stop
-finish_stopped first disk disk' start sink sink' mid new told at asked commands target a b text (CommandFailed command exit) shown heard looked all done ended later slater why = absurd why
-finish_stopped first disk disk' start sink sink' mid new told at asked commands target a b text (MissingInput asker node) shown heard looked all done ended later slater why = (
-  record {
-    inputs = target.nodes;
-    asks = inr (record { started = all; named = sym why.0; inputs_are = refl });
-    first = first_missing_on (shown_looked shown heard looked) why.1;
-  },
+    → IsBuildStop first disk' start sink' (Knows b) commands target b.starts b.heard stop
+finish_stopped first disk disk' start sink sink' mid new commands target b text (CommandFailed command exit) all done ended later slater why = absurd why
+finish_stopped first disk disk' start sink sink' mid new commands target b text (MissingInput asker node) all done ended later slater why = (
+  record { inputs = target.nodes; asks = inr (record { started = all; named = sym why.0; inputs_are = refl }); first = why.1 },
   done,
   ended,
 )
-finish_stopped first disk disk' start sink sink' mid new told at asked commands target a b text DiskFault shown heard looked all done ended later slater why = (Rose-last first disk disk' later why.0, done)
-finish_stopped first disk disk' start sink sink' mid new told at asked commands target a b text SinkFault shown heard looked all done ended later slater why = (Rose-last start sink sink' slater why.0, done, ended)
-finish_stopped first disk disk' start sink sink' mid new told at asked commands target a b text NoMemory shown heard looked all done ended later slater why = done
+finish_stopped first disk disk' start sink sink' mid new commands target b text DiskFault all done ended later slater why = (Rose-last first disk disk' later why.0, done)
+finish_stopped first disk disk' start sink sink' mid new commands target b text SinkFault all done ended later slater why = (Rose-last start sink sink' slater why.0, done, ended)
+finish_stopped first disk disk' start sink sink' mid new commands target b text NoMemory all done ended later slater why = done
 
 -- an order that failed shows nothing of its outputs
 pub settle_shows : (before now : ℕ) (ended : Ended) (noted then : List Heard) (stop : Stop) → IsSettleStop before now ended noted then stop

@@ -1,19 +1,13 @@
 -- What one command adds to a build, and what a build leaves.
-use Rattle.std.specs.Prelude.{◌≡◌, ◌⊎◌, ◌+◌, ℕ, List, [], ◌∷◌, ◌++◌, length, Option}
-use Rattle.file_info.specs.Content.{Known, content, node_text}
+use Rattle.std.specs.Prelude.{◌≡◌, ◌⊎◌, ◌+◌, ℕ, List, [], ◌∷◌, ◌++◌, length}
 use Rattle.file_info.specs.Lists.{In}
 use Rattle.file_info.specs.declared.info.Info.{Info}
-use Rattle.file_info.specs.declared.info.Info.TheVariants.{Missing}
-use Rattle.file_info.specs.declared.info.Form.{Form}
-use Rattle.file_info.specs.declared.info.Form.TheVariants.{Follow}
-use Rattle.outside.specs.Telling.{Rose, Grew}
+use Rattle.outside.specs.Telling.{Rose, Grew, SinkView}
 use Rattle.outside.specs.Formed.{IsOrderOf}
 use Rattle.outside.specs.declared.order.Exit.{Exit}
 use Rattle.manifest_reader.specs.declared.command.Command.{Command}
-use Rattle.manifest_reader.specs.declared.command.Input.{Input}
 use Rattle.manifest_reader.specs.declared.command.TargetEntry.{TargetEntry}
 use Rattle.build_meaning.specs.Commands.{meaning_of}
-use Rattle.build_meaning.specs.Fresh.{Does, Sights, Fresh}
 use Rattle.llbuild_cli.specs.declared.report.Heard.{Heard}
 use Rattle.llbuild_cli.specs.declared.report.Outcome.TheVariants.{Failed}
 use Rattle.llbuild_cli.specs.declared.report.Start.{Start}
@@ -28,22 +22,22 @@ use Rattle.llbuild_cli.specs.Texts.{line_of}
 use Rattle.llbuild_cli.specs.Written.{GrewByPart}
 
 -- the command was not started, and nothing was written
-pub record NotAnnounced (old new : Option (List ℕ)) (before after : List Start) : Type 0 where
+pub record NotAnnounced (old new : SinkView) (before after : List Start) : Type 0 where
   pub same : after ≡ before
   pub grew : Grew old new []
 
 -- the command was started, and its line was written
-pub record Announced (c : Command) (old new : Option (List ℕ)) (before after : List Start) : Type 0 where
+pub record Announced (c : Command) (old new : SinkView) (before after : List Start) : Type 0 where
   pub more : after ≡ before ++ start_of c ∷ []
   pub grew : Grew old new (line_of (length before + 1) (start_of c))
 
 -- the command was not started, and a part of its line was written
-pub record PartAnnounced (c : Command) (old new : Option (List ℕ)) (before after : List Start) : Type 0 where
+pub record PartAnnounced (c : Command) (old new : SinkView) (before after : List Start) : Type 0 where
   pub same : after ≡ before
   pub grew : GrewByPart old new (line_of (length before + 1) (start_of c))
 
 -- how far the start of a command came, by why the command stopped the build
-abbrev pub CameTo : Command → Option (List ℕ) → Option (List ℕ) → List Start → List Start → Stop → Type 0
+abbrev pub CameTo : Command → SinkView → SinkView → List Start → List Start → Stop → Type 0
 CameTo c old new before after (CommandFailed command exit) = Announced c old new before after
 CameTo c old new before after (MissingInput asker node) = NotAnnounced old new before after
 CameTo c old new before after DiskFault = NotAnnounced old new before after ⊎ Announced c old new before after
@@ -104,14 +98,9 @@ IsBuildStop disk disk' sink sink' shown commands target starts heard DiskFault =
 IsBuildStop disk disk' sink sink' shown commands target starts heard SinkFault = Rose sink sink' × AllDone heard × AllEnded starts heard
 IsBuildStop disk disk' sink sink' shown commands target starts heard NoMemory = AllDone heard
 
--- each of these nodes has the content that manifest and sources give it, and none is missing
-pub record AreFresh (does : Does) (m : List Known) (at : List ℕ → Form → Info) (commands : List Command) (sights : Sights) (nodes : List Input) : Type 0 where
-  pub fresh : (n : Input) → In n nodes → Fresh does m commands sights (node_text n.node) (content m (node_text n.node) (at (node_text n.node) Follow))
-  pub there : (n : Input) → In n nodes → at (node_text n.node) Follow ≡ Missing → ⊥
-
--- why a build stops behind its commands: the disk or the sink failed, no memory was left, or this node is the first that is
+-- why a build stops after its commands: the disk or the sink failed, no memory was left, or this node is the first that is
 -- missing. A part of the summary was written at most, and at the others nothing.
-abbrev pub IsFinishStop : ℕ → ℕ → ℕ → ℕ → Option (List ℕ) → Option (List ℕ) → (List ℕ → Info → Type 0) → TargetEntry → List ℕ → Stop → Type 0
+abbrev pub IsFinishStop : ℕ → ℕ → ℕ → ℕ → SinkView → SinkView → (List ℕ → Info → Type 0) → TargetEntry → List ℕ → Stop → Type 0
 IsFinishStop disk disk' sink sink' old new shown target text (CommandFailed command exit) = ⊥
 IsFinishStop disk disk' sink sink' old new shown target text (MissingInput asker node) = (asker ≡ target.name) × IsFirstMissing shown target.nodes node × Grew old new []
 IsFinishStop disk disk' sink sink' old new shown target text DiskFault = Rose disk disk' × Grew old new []

@@ -4,6 +4,8 @@ use Rattle.file_info.specs.Content.{Content, Known, content, read_contents}
 use Rattle.file_info.specs.Lists.{In}
 use Rattle.file_info.specs.declared.info.Info.{Info}
 use Rattle.outside.specs.Formed.{IsOrderOf}
+use Rattle.outside.specs.Outcomes.{Unchanged}
+use Rattle.outside.specs.Telling.{DiskView, Told, Tells, Keeps}
 use Rattle.outside.specs.declared.order.Order.{Order}
 use Rattle.outside.specs.declared.order.Exit.{Exit}
 use Rattle.outside.specs.declared.order.Exit.TheVariants.{Code}
@@ -27,11 +29,15 @@ pub record IsOrderOfOne (commands : List Command) (order : Order) : Type 0 where
   pub name : order.command ≡ command.name
   pub is : IsOrderOf (meaning_of command) order
 
--- the world answered an exit for the order, and the outcome is the one that it gives
-pub record IsGiven (ended : Order → Exit → Type 0) (heard : Heard) : Type 0 where
+-- the world answered an exit for the order, at a moment of the run at which all that the order read stood, and the outcome is
+-- the one that the exit gives
+pub record IsGiven (ended : DiskView → Order → Exit → Type 0) (new : DiskView) (heard : Heard) : Type 0 where
   pub exit : Exit
-  pub answered : ended heard.order exit
+  pub moment : DiskView
+  pub answered : ended moment heard.order exit
   pub outcome : IsOutcomeOf exit heard.order heard.outcome
+  pub keeps : Keeps moment new
+  pub stood : Told new → Unchanged moment.at heard.order
 
 -- the contents at paths with these informations
 abbrev pub contents_of : List Known → List (List ℕ) → List Info → List Content
@@ -45,9 +51,9 @@ IsLawful does m order (Failed exit) = Unit {0}
 IsLawful does m order (Done found outputs) = does order.signature (read_contents m order.reads) [] (contents_of m order.outputs outputs)
 
 -- all that was heard was given, and is lawful where the world tells
-pub record HeardWell {D : Type 0} (tells : D → List Known → Type 0) (ended : Order → Exit → Type 0) (does : Does) (world : D) (heard : List Heard) : Type 0 where
-  pub given : (h : Heard) → In h heard → IsGiven ended h
-  pub lawful : (m : List Known) → tells world m → (h : Heard) → In h heard → IsLawful does m h.order h.outcome
+pub record HeardWell (ended : DiskView → Order → Exit → Type 0) (does : Does) (new : DiskView) (heard : List Heard) : Type 0 where
+  pub given : (h : Heard) → In h heard → IsGiven ended new h
+  pub lawful : (m : List Known) → Tells new m → (h : Heard) → In h heard → IsLawful does m h.order h.outcome
 
 -- the order succeeded
 abbrev pub IsDone : Outcome → Type 0

@@ -1,5 +1,5 @@
--- What a command finds before it runs, and leaves behind it.
-use Rattle.std.specs.Prelude.{◌≡◌, ◌⊎◌, ℕ, List, [], map}
+-- What a command finds before it runs, and leaves after it.
+use Rattle.std.specs.Prelude.{◌≡◌, ℕ, List, [], ◌∷◌, ◌++◌, map}
 use Rattle.file_info.specs.Content.{Content, Known, content, node_text, read_contents}
 use Rattle.file_info.specs.Lists.{In, IsDistinct}
 use Rattle.file_info.specs.declared.info.Info.{Info}
@@ -10,6 +10,10 @@ use Rattle.file_info.specs.declared.node.Read.{Read}
 use Rattle.file_info.specs.declared.node.Reading.TheVariants.{File}
 use Rattle.outside.specs.Formed.{paths_of, IsOrderOf}
 use Rattle.outside.specs.Meaning.{signature_of}
+use Rattle.outside.specs.Outcomes.{Unchanged}
+use Rattle.outside.specs.Telling.{DiskView, Told, Tells, Keeps}
+use Rattle.outside.specs.declared.order.Ended.{Ended}
+use Rattle.outside.specs.declared.order.Exit.{Exit}
 use Rattle.outside.specs.declared.order.Order.{Order}
 use Rattle.manifest_reader.specs.declared.command.Command.{Command}
 use Rattle.manifest_reader.specs.declared.command.Input.{Input}
@@ -17,10 +21,9 @@ use Rattle.manifest_reader.specs.Served.{IsServed}
 use Rattle.build_meaning.specs.Commands.{meaning_of}
 use Rattle.build_meaning.specs.Fresh.{Does}
 use Rattle.llbuild_cli.specs.declared.report.Heard.{Heard}
-use Rattle.llbuild_cli.specs.declared.seen.Seen.{Seen}
-use Rattle.llbuild_cli.specs.Seen.{known, Knows}
+use Rattle.llbuild_cli.specs.Journal.{Journal, Knows}
 use Rattle.llbuild_cli.specs.Looked.{Looked}
-use Rattle.llbuild_cli.specs.Shows.{WasHeard, Shows}
+use Rattle.llbuild_cli.specs.Shows.{GivesInfo}
 use Rattle.llbuild_cli.specs.Reading.{AreRead}
 
 -- the path is that of one of these inputs
@@ -31,17 +34,9 @@ IsInput inputs p = (i : Input) × (In i inputs × (p ≡ node_text i.node))
 abbrev pub IsOutput : Command → List ℕ → Type 0
 IsOutput c p = In p (paths_of c.outputs)
 
--- what was seen still stands, where the world tells
-abbrev pub SeenStands : {D : Type 0} → (D → List ℕ → Form → Info) → (D → List Known → Type 0) → D → Seen → Type 0
-SeenStands at tells world seen = (m : List Known) → tells world m → (p : List ℕ) (i : Info) → Knows seen p i → at world p Follow ≡ i
-
--- the report shows all that was seen
-abbrev pub AllShown : Seen → Type 0
-AllShown seen = (p : List ℕ) (i : Info) → Knows seen p i → Shows seen.stats seen.heard p i
-
--- all that the report shows was seen
-abbrev pub AllKnown : Seen → Type 0
-AllKnown seen = (p : List ℕ) (i : Info) → Shows seen.stats seen.heard p i → Knows seen p i
+-- what was seen still stands, where it is told
+abbrev pub SeenStands : DiskView → Journal → Type 0
+SeenStands world seen = Told world → (p : List ℕ) (i : Info) → Knows seen p i → world.at p Follow ≡ i
 
 -- a shell command with distinct outputs, none of which it reads
 pub record IsSound (c : Command) : Type 0 where
@@ -68,21 +63,24 @@ pub record IsOrderFor (c : Command) (ticket : ℕ) (reads : List Read) (order : 
   pub ticket_is : order.ticket ≡ ticket
   pub reads_are : order.reads ≡ reads
   pub outputs_are : order.outputs ≡ paths_of c.outputs
-  pub no_links : order.links ≡ []
 
--- the command ran on what was read of its inputs: the report of what was seen before went on by its inputs and then by its
--- outputs, which stand, and where the world tells it did what the law says
-pub record Ran {D : Type 0} (at : D → List ℕ → Form → Info) (told : D → Type 0) (tells : D → List Known → Type 0) (does : Does) (c : Command) (after : D) (old new : Seen) : Type 0 where
-  pub middle : Seen
-  pub looked : Looked (told after) (at after) (IsInput c.inputs) old middle
-  pub unheard : middle.heard ≡ old.heard
+-- an exit was answered of the order, at a moment at which all that it read still stood
+pub record IsEnded (ended : DiskView → Order → Exit → Type 0) (old new : DiskView) (e : Ended) : Type 0 where
+  pub moment : DiskView
+  pub answered : ended moment e.order e.exit
+  pub keeps : Keeps moment new
+  pub stood : Told new → ReadsStand old.at e.order.reads → Unchanged moment.at e.order
+
+-- the command ran on what was read of its inputs: the journal went on by its inputs and then by the end of its order, whose
+-- outcome has what stands at its outputs, and where it is told it did what the law says
+pub record Ran (does : Does) (c : Command) (after : DiskView) (old new : Journal) : Type 0 where
+  pub middle : Journal
+  pub looked : Looked after (IsInput c.inputs) old middle
   pub reads : List Read
   pub are_read : AreRead (Knows middle) c.inputs reads
-  pub outputs : (p : List ℕ) → IsOutput c p → (i : Info) × (Knows new p i)
-  pub others : (p : List ℕ) → (IsOutput c p → ⊥) → known new p ≡ known middle p
+  pub last : Heard
   pub stats : new.stats ≡ middle.stats
-  pub stand : told after → (p : List ℕ) (i : Info) → IsOutput c p → Knows new p i → at after p Follow ≡ i
-  pub reported : (p : List ℕ) (i : Info) → IsOutput c p → Knows new p i → WasHeard new.heard p i
-  pub reports : (p : List ℕ) (i : Info) → WasHeard new.heard p i → WasHeard old.heard p i ⊎ (IsOutput c p × Knows new p i)
-  pub heard_kept : (h : Heard) → In h old.heard → In h new.heard
-  pub did : (m : List Known) → tells after m → DidLaw does m (at after) c reads
+  pub heard : new.heard ≡ old.heard ++ last ∷ []
+  pub outputs : (p : List ℕ) → IsOutput c p → (i : Info) × GivesInfo last.order.outputs last.outcome p i
+  pub gives : (p : List ℕ) (i : Info) → GivesInfo last.order.outputs last.outcome p i → IsOutput c p × (Told after → after.at p Follow ≡ i)
+  pub did : (m : List Known) → Tells after m → DidLaw does m after.at c reads

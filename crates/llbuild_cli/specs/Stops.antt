@@ -26,18 +26,10 @@ end_of DiskFault = ends.DiskFault
 end_of SinkFault = ends.SinkFault
 end_of NoMemory = ends.NoMemory
 
--- what holds at every stop but want of memory
-abbrev pub unless_memory : Stop → Type 0 → Type 0
-unless_memory (CommandFailed command exit) fact = fact
-unless_memory (MissingInput asker node) fact = fact
-unless_memory DiskFault fact = fact
-unless_memory SinkFault fact = fact
-unless_memory NoMemory fact = Unit {0}
-
--- what holds at every end but want of memory
-abbrev pub ButForMemory : {T : Type 0} → Result T Stop → Type 0 → Type 0
-ButForMemory (Ok x) fact = fact
-ButForMemory (Err stop) fact = unless_memory stop fact
+-- how a build ends, by its result
+abbrev pub end_after : {F : Type 0} → Result (Unit {0}) Stop → End F
+end_after (Ok done) = ends.Ok
+end_after (Err stop) = end_of stop
 
 -- the disk failed, or no memory was left
 abbrev pub IsDiskStop : ℕ → ℕ → Stop → Type 0

@@ -23,7 +23,7 @@ lines_from place (start ∷ more) = line_of place start ++ lines_from (place + 1
 abbrev pub lines_of : List Start → List ℕ
 lines_of starts = lines_from 1 starts
 
--- the line behind a build that succeeded, with the number of its starts
+-- the line after a build that succeeded, with the number of its starts
 abbrev pub summary_text : ℕ → List ℕ
 summary_text starts = codes "ok: " ++ decimal starts ++ codes " started" ++ line_end
 

@@ -8,6 +8,7 @@ ghost use Rattle.llbuild_cli.specs.Written.{GrewByPart};
 
 use crate::put_all::put_all;
 use crate::report::{Reason, Start};
+use crate::seen::Seen;
 use crate::stop::Stop;
 use crate::texts::line_of;
 use file_info::copied::Copied;
@@ -43,22 +44,22 @@ pub fn announce<O: Sink>(
     alloc: Global,
     command: &Command,
     out: &mut O,
-    starts: &mut List<Start>,
+    seen: &mut Seen,
 ) -> Result<u64, Stop>
-    ensures ticket { IfOk result (λ ticket. ticket ≡ length starts.old + 1) }
-    ensures noted { OnOk result (starts.new ≡ starts.old ++ start_of command.now ∷ []) }
-    ensures wrote { OnOk result (Grew (O.bytes out.old) (O.bytes out.new) (line_of (length starts.old + 1) (start_of command.now))) }
-    ensures same { OnErr result (starts.new ≡ starts.old) }
-    ensures part { OnErr result (GrewByPart (O.bytes out.old) (O.bytes out.new) (line_of (length starts.old + 1) (start_of command.now))) }
-    ensures stop { IfErr result (IsSinkStop (O.faults out.old) (O.faults out.new)) }
-    ensures later { O.faults out.old ≤ O.faults out.new }
+    ensures ticket { IfOk result (λ ticket. ticket ≡ length seen.old.starts + 1) }
+    ensures noted { OnOk result (seen.new ≡ record seen.old { starts = seen.old.starts ++ start_of command.now ∷ [] }) }
+    ensures wrote { OnOk result (Grew (O.view out.old) (O.view out.new) (line_of (length seen.old.starts + 1) (start_of command.now))) }
+    ensures same { OnErr result (seen.new ≡ seen.old) }
+    ensures part { OnErr result (GrewByPart (O.view out.old) (O.view out.new) (line_of (length seen.old.starts + 1) (start_of command.now))) }
+    ensures stop { IfErr result (IsSinkStop (O.view out.old).faults (O.view out.new).faults) }
+    ensures later { (O.view out.old).faults ≤ (O.view out.new).faults }
 {
     let start = start_of(alloc, command)?;
-    let Some(ticket) = (starts.len() as u64).checked_add(1) else {
+    let Some(ticket) = (seen.starts() as u64).checked_add(1) else {
         return Err(Stop::NoMemory);
     };
     let line = line_of(alloc, ticket, &start)?;
     put_all(out, line.as_slice())?;
-    starts.push(start)?;
+    seen.note_start(start)?;
     Ok(ticket)
 }

@@ -2,9 +2,10 @@
 ghost use Rattle.std.specs.Prelude.{◌≡◌, ◌≤◌, ◌+◌, [], List as Items, IfOk, IfErr};
 ghost use Rattle.file_info.specs.Content.{Known};
 ghost use Rattle.outside.specs.Formed.{AreReadsOf};
+ghost use Rattle.outside.specs.Telling.{Tells};
 ghost use Rattle.build_meaning.specs.Commands.{meaning_of};
 ghost use Rattle.llbuild_cli.specs.Moved.{Moved};
-ghost use Rattle.llbuild_cli.specs.Ready.{IsSound, IsOutput, IsOrderFor, ReadsStand, DidLaw};
+ghost use Rattle.llbuild_cli.specs.Ready.{IsSound, IsOutput, IsOrderFor, IsEnded, ReadsStand, DidLaw};
 ghost use Rattle.llbuild_cli.specs.Stops.{IsDiskStop};
 
 use crate::stop::Stop;
@@ -25,16 +26,17 @@ pub fn execute<L: Law, W: World<L>>(
     reads: List<Read>,
     world: &mut W,
 ) -> Result<Ended, Stop>
-    requires none { W.orders world.old ≡ [] }
+    requires none { (W.view world.old).orders ≡ [] }
     requires sound { IsSound command.now }
     requires reads { AreReadsOf (meaning_of command.now).inputs reads }
     ensures order { IfOk result (λ e. IsOrderFor command.now ticket reads e.order) }
-    ensures ended { IfOk result (λ e. W.ended e.order e.exit) }
-    ensures does { (m : Items Known) → W.tells world.new m → IfOk result (λ e. e.exit ≡ Exit.Code 0 → ReadsStand (W.at world.old) reads → DidLaw L.does m (W.at world.new) command.now reads) }
-    ensures stop { IfErr result (IsDiskStop (W.faults world.old) (W.faults world.new)) }
-    ensures moved { Moved W.told W.tells W.at W.faults (IsOutput command.now) world.old world.new }
-    ensures none { W.orders world.new ≡ [] }
-    ensures begins { W.begins world.new ≤ W.begins world.old + 1 }
+    ensures ended { IfOk result (IsEnded W.ended (W.view world.old) (W.view world.new)) }
+    ensures does { (m : Items Known) → Tells (W.view world.new) m → IfOk result (λ e. e.exit ≡ Exit.Code 0
+        → ReadsStand (W.view world.old).at reads → DidLaw L.does m (W.view world.new).at command.now reads) }
+    ensures stop { IfErr result (IsDiskStop (W.view world.old).faults (W.view world.new).faults) }
+    ensures moved { Moved (IsOutput command.now) (W.view world.old) (W.view world.new) }
+    ensures none { (W.view world.new).orders ≡ [] }
+    ensures begins { (W.view world.new).begins ≤ (W.view world.old).begins + 1 }
 {
     let order = order_of(alloc, command, ticket, reads)?;
     world.begin(alloc, order)?;

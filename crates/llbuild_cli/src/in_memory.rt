@@ -1,9 +1,13 @@
 //! Runs over files in memory.
-ghost use Rattle.std.specs.Prelude.{◌≡◌, ◌++◌, [], Some, length, map, string_bytes};
-ghost use Rattle.llbuild_cli.specs.Ends.{IsEndBy, MetInputsBy};
-ghost use Rattle.llbuild_cli.specs.InMemory.{PlannedInMemory, RefusedInMemory, FreshInMemory};
+ghost use Rattle.std.specs.Prelude.{◌≡◌, ◌++◌, [], length, map, string_bytes, ⊤};
+ghost use Rattle.memory_world.specs.Log.{Tells};
+ghost use Rattle.memory_world.specs.Memory.{map_of, view_of};
+ghost use Rattle.memory_world.specs.Exits.{IsToyExit};
+ghost use Rattle.memory_world.specs.Toy.{ToyDoes};
+ghost use Rattle.llbuild_cli.specs.InMemory.{FreshInMemory, seen_in};
+ghost use Rattle.llbuild_cli.specs.Served.{Served, answers_of, run_of};
 ghost use Rattle.llbuild_cli.specs.Status.{status_of};
-ghost use Rattle.llbuild_cli.specs.Texts.{lines_of, summary_text, failure_text};
+ghost use Rattle.llbuild_cli.specs.Texts.{failure_text, lines_of, summary_text};
 ghost use Rattle.llbuild_cli.specs.Written.{WroteUnlessFault};
 
 use crate::report::{End, Finish};
@@ -14,10 +18,9 @@ use memory_world::toy::ToyLaw;
 use outside::world::NoFault;
 use std::alloc::Global;
 
-/// Does the job that the words ask for over files in memory. At `Ok` each node of the target stands with the content that
-/// the manifest and the sources give it by plain recursion, and all lines were written. Every other end has its cause, and the
-/// plan is that of the manifest that stood in its file. Nothing of this rests on a premise about the outside: such files tell
-/// all their contents.
+/// Does the job that the words ask for over files in memory. At `Ok` each node of the target stands with exactly the content
+/// that the manifest and the files that stood at entry give it by plain recursion, and all lines were written. `Served` lists
+/// what holds at every end. Nothing of this rests on a premise about the outside: such files tell all their contents.
 pub fn run_in_memory(
     alloc: Global,
     words: &[String],
@@ -26,17 +29,19 @@ pub fn run_in_memory(
     err: &mut VecSink,
 ) -> Finish<NoFault>
     requires { world.old.begun ≡ [] }
-    ensures begun { world.new.begun ≡ [] }
+    ensures fresh { result.report.end ≡ End.Ok → FreshInMemory world.old.writes world.new.writes (map string_bytes words.now) }
+    ensures lines { result.report.end ≡ End.Ok
+        → out.new.items ≡ out.old.items ++ (lines_of result.report.starts ++ summary_text (length result.report.starts)) }
+    ensures served { Served (answers_of ToyDoes IsToyExit (λ path most bytes. ⊤))
+        (run_of (view_of world.old) (view_of world.new) (seen_in out.old) (seen_in out.new) result.report) (map string_bytes words.now) }
+    ensures told { Tells world.new.writes (map_of world.new.writes) }
     ensures status { result.status ≡ status_of result.report.end }
-    ensures fresh { result.report.end ≡ End.Ok → PlannedInMemory world.old.writes (map string_bytes words.now) (FreshInMemory world.new.writes result.report.stats) }
-    ensures lines { result.report.end ≡ End.Ok → out.new.items ≡ out.old.items ++ (lines_of result.report.starts ++ summary_text (length result.report.starts)) }
-    ensures failure { WroteUnlessFault (Some err.old.items) (Some err.new.items) err.old.faults err.new.faults (failure_text result.report.end) }
-    ensures end { IsEndBy (PlannedInMemory world.old.writes (map string_bytes words.now)) (RefusedInMemory world.old.writes (map string_bytes words.now)) world.old.faults world.new.faults out.old.faults out.new.faults
-        (map string_bytes words.now) result.report.starts result.report.stats result.report.heard result.report.end }
-    ensures inputs { (result.report.end ≡ End.NoMemory → ⊥) → MetInputsBy (PlannedInMemory world.old.writes (map string_bytes words.now)) result.report.starts result.report.stats result.report.heard result.report.end }
+    ensures failure { WroteUnlessFault (seen_in err.old) (seen_in err.new) (failure_text result.report.end) }
 {
+    // Its clauses say that all contents that stood at entry are told.
+    let _before = world.writes();
     let finish = run_alone::<ToyLaw, _, _, _>(alloc, words, world, out, err);
-    // Its clauses say that all contents are told.
-    let _writes = world.writes();
+    // And all that stand now.
+    let _after = world.writes();
     finish
 }

@@ -1,13 +1,12 @@
 //! What stands at the inputs of a command.
 ghost use Rattle.std.specs.Prelude.{◌≡◌, ◌∷◌, [], IfOk, IfErr};
-ghost use Rattle.file_info.specs.declared.info.Info.{Info as InfoOf};
+ghost use Rattle.outside.specs.Telling.{Stayed};
 ghost use Rattle.manifest_reader.specs.Served.{IsFileInput, AreFileInputs};
-ghost use Rattle.llbuild_cli.specs.Seen.{Knows};
-ghost use Rattle.llbuild_cli.specs.Looked.{Looked, SameRuns};
-ghost use Rattle.llbuild_cli.specs.Moved.{Moved};
+ghost use Rattle.llbuild_cli.specs.Journal.{Knows, IsUnknown, IsOnce};
+ghost use Rattle.llbuild_cli.specs.Looked.{Looked};
 ghost use Rattle.llbuild_cli.specs.Reading.{IsRead, AreRead};
 ghost use Rattle.llbuild_cli.specs.Ready.{IsInput};
-ghost use Rattle.llbuild_cli.specs.Stops.{ButForMemory, IsDiskStop, IsReadStop, IsInputStop};
+ghost use Rattle.llbuild_cli.specs.Stops.{IsDiskStop, IsReadStop, IsInputStop};
 
 use crate::seen::Seen;
 use crate::stop::Stop;
@@ -23,21 +22,20 @@ use outside::world::World;
 use std::alloc::Global;
 
 // What stands at a path: what was seen there, or else what the world says of this source.
-#[tactic(auto, using(crate::proofs::Going::looked_none, crate::proofs::Going::moved_none))]
+#[tactic(auto, using(crate::proofs::Going::looked_none, crate::proofs::Going::stayed_none))]
 fn look<L: Law, W: World<L>>(
     alloc: Global,
     path: &PathName,
     world: &mut W,
     seen: &mut Seen,
 ) -> Result<Info, Stop>
-    ensures looked { ButForMemory result (Looked (W.told world.new) (W.at world.new) (λ p. p ≡ path.now) seen.old seen.new) }
-    ensures runs { SameRuns seen.old seen.new }
+    requires { IsOnce seen.old }
+    ensures looked { Looked (W.view world.new) (λ p. p ≡ path.now) seen.old seen.new }
+    ensures once { IsOnce seen.new }
     ensures info { IfOk result (λ info. Knows seen.new path.now info) }
-    ensures stop { IfErr result (IsDiskStop (W.faults world.old) (W.faults world.new)) }
-    ensures unseen { IfErr result (λ stop. stop ≡ Stop.DiskFault → (info : InfoOf) → Knows seen.new path.now info → ⊥) }
-    ensures moved { Moved W.told W.tells W.at W.faults (λ p. ⊥) world.old world.new }
-    ensures orders { W.orders world.new ≡ W.orders world.old }
-    ensures begins { W.begins world.new ≡ W.begins world.old }
+    ensures stop { IfErr result (IsDiskStop (W.view world.old).faults (W.view world.new).faults) }
+    ensures unseen { IfErr result (λ stop. stop ≡ Stop.DiskFault → IsUnknown seen.new path.now) }
+    ensures stayed { Stayed (W.view world.old) (W.view world.new) }
 {
     if let Some(info) = seen.info(path) {
         return Ok(info.copy(alloc)?);
@@ -55,14 +53,13 @@ fn read_input<L: Law, W: World<L>>(
     world: &mut W,
     seen: &mut Seen,
 ) -> Result<Read, Stop>
-    requires { IsFileInput input.now }
-    ensures looked { ButForMemory result (Looked (W.told world.new) (W.at world.new) (λ p. IsInput (input.now ∷ []) p) seen.old seen.new) }
-    ensures runs { SameRuns seen.old seen.new }
+    requires file { IsFileInput input.now }
+    requires once { IsOnce seen.old }
+    ensures looked { Looked (W.view world.new) (λ p. IsInput (input.now ∷ []) p) seen.old seen.new }
+    ensures once { IsOnce seen.new }
     ensures read { IfOk result (λ read. IsRead (Knows seen.new) input.now read) }
-    ensures stop { IfErr result (IsReadStop (W.faults world.old) (W.faults world.new) asker.now (Knows seen.new) input.now) }
-    ensures moved { Moved W.told W.tells W.at W.faults (λ p. ⊥) world.old world.new }
-    ensures orders { W.orders world.new ≡ W.orders world.old }
-    ensures begins { W.begins world.new ≡ W.begins world.old }
+    ensures stop { IfErr result (IsReadStop (W.view world.old).faults (W.view world.new).faults asker.now (Knows seen.new) input.now) }
+    ensures stayed { Stayed (W.view world.old) (W.view world.new) }
 {
     let node = input.node.copy(alloc)?;
     let NodeName::Path(path) = &input.node else {
@@ -92,14 +89,13 @@ pub fn gather<L: Law, W: World<L>>(
     world: &mut W,
     seen: &mut Seen,
 ) -> Result<List<Read>, Stop>
-    requires { AreFileInputs inputs.now }
-    ensures looked { ButForMemory result (Looked (W.told world.new) (W.at world.new) (IsInput inputs.now) seen.old seen.new) }
-    ensures runs { SameRuns seen.old seen.new }
+    requires files { AreFileInputs inputs.now }
+    requires once { IsOnce seen.old }
+    ensures looked { Looked (W.view world.new) (IsInput inputs.now) seen.old seen.new }
+    ensures once { IsOnce seen.new }
     ensures reads { IfOk result (λ reads. AreRead (Knows seen.new) inputs.now reads) }
-    ensures stop { IfErr result (IsInputStop (W.faults world.old) (W.faults world.new) asker.now (Knows seen.new) inputs.now) }
-    ensures moved { Moved W.told W.tells W.at W.faults (λ p. ⊥) world.old world.new }
-    ensures orders { W.orders world.new ≡ W.orders world.old }
-    ensures begins { W.begins world.new ≡ W.begins world.old }
+    ensures stop { IfErr result (IsInputStop (W.view world.old).faults (W.view world.new).faults asker.now (Knows seen.new) inputs.now) }
+    ensures stayed { Stayed (W.view world.old) (W.view world.new) }
 {
     let mut reads = List::new(alloc);
     for input in inputs.as_slice() {

@@ -1,6 +1,9 @@
 // The build system's program: reads a manifest, and starts the commands that a target needs.
 #![tactic(auto)]
 
+ghost use Rattle.std.specs.Prelude.{◌≡◌};
+ghost use Rattle.std.specs.Process.{exit_status};
+
 mod announce;
 mod build;
 mod execute;
@@ -9,6 +12,7 @@ mod look;
 mod open;
 mod put_all;
 mod reach;
+mod refusal;
 mod report;
 mod run;
 mod seen;
@@ -17,18 +21,39 @@ mod stop;
 mod texts;
 mod words;
 
+use crate::report::Finish;
 use crate::run::run_alone;
 use memory_world::toy::ToyLaw;
+use outside::world::NoFault;
 use real_world::std_sink::StdSink;
 use real_world::world::RealWorld;
 use std::process::ExitCode;
 use std::{env, io};
 
-fn main(rt: HostRuntime) -> io::Result<ExitCode> {
+// The exit code of a run is its status.
+fn exit_code(finish: &Finish<NoFault>) -> ExitCode
+    ensures { exit_status result ≡ finish.now.status }
+{
+    ExitCode::from(finish.status)
+}
+
+// The words after the program's name. Where one of them is not UTF-8 they ask for nothing, so there are none.
+fn words_of(rt: &HostRuntime) -> io::Result<Vec<String>> {
     let mut words = Vec::new(rt.alloc());
-    for word in env::args(&rt)?.skip(1) {
-        words.push(word)?;
+    match env::args(rt) {
+        Ok(args) => {
+            for word in args.skip(1) {
+                words.push(word)?;
+            }
+            Ok(words)
+        }
+        Err(error) if error.kind() == io::ErrorKind::InvalidData => Ok(words),
+        Err(error) => Err(error),
     }
+}
+
+fn main(rt: HostRuntime) -> io::Result<ExitCode> {
+    let words = words_of(&rt)?;
     let mut world = RealWorld::new(rt);
     let mut out = StdSink::new(rt.stdout());
     let mut err = StdSink::new(rt.stderr());
@@ -39,7 +64,7 @@ fn main(rt: HostRuntime) -> io::Result<ExitCode> {
         &mut out,
         &mut err,
     );
-    Ok(ExitCode::from(finish.status))
+    Ok(exit_code(&finish))
 }
 
 #[cfg(test)]

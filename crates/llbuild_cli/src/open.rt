@@ -1,24 +1,25 @@
 //! The manifest that words ask for.
 ghost use Rattle.std.specs.Prelude.{◌≡◌, ◌⊎◌, Some, None, Ok, IsTrue, map, string_bytes, IfOk, IfErr};
+ghost use Rattle.std.specs.Option.{option_copied};
 ghost use Rattle.std.specs.Str.{is_utf8};
+ghost use Rattle.outside.specs.Telling.{Stayed};
 ghost use Rattle.manifest_reader.specs.Load.{loaded};
-ghost use Rattle.llbuild_cli.specs.Ends.{IsEarlyEnd};
-ghost use Rattle.llbuild_cli.specs.Job.{IsAnswer};
-ghost use Rattle.llbuild_cli.specs.Moved.{Moved};
-ghost use Rattle.llbuild_cli.specs.Opened.{IsReadEnd, IsLoadEnd, IsOpened};
+ghost use Rattle.manifest_reader.specs.Places.{target_named};
+ghost use Rattle.llbuild_cli.specs.Opened.{IsUnread, IsUnloaded, IsOpened};
+ghost use Rattle.llbuild_cli.specs.Plan.{IsAnswer, IsRefusal};
 ghost use Rattle.llbuild_cli.specs.Words.{job_of};
 
-use crate::report::End;
+use crate::refusal::Refusal;
 use crate::words::{Job, UsageFault, read_words};
 use file_info::copied::Copied;
 use file_info::list::Bytes;
-use file_info::memory::NoMemory;
+use manifest_reader::command::TargetEntry;
 use manifest_reader::error::LoadError;
 use manifest_reader::load::load;
 use manifest_reader::manifest::Manifest;
-use outside::disk::{DiskError, FileBytes};
+use outside::disk::FileBytes;
 use outside::law::Law;
-use outside::world::{NoFault, World};
+use outside::world::World;
 use std::alloc::Global;
 use yaml_profile::YamlError;
 
@@ -32,62 +33,51 @@ pub struct Opened {
     pub target: Bytes,
 }
 
-impl From<NoMemory> for End<NoFault> {
-    ghost use Rattle.std.specs.Prelude.{◌≡◌};
-    ghost use Rattle.llbuild_cli.specs.declared.report.End.TheVariants as ends;
-
-    ghost from_gives = { λ _ end. end ≡ ends.NoMemory };
-
-    fn from(_error: NoMemory) -> End<NoFault> {
-        End::NoMemory
-    }
-}
-
 // The job that the words ask for.
-fn job_of(alloc: Global, words: &[String]) -> Result<Job, End<NoFault>>
+fn job_of(alloc: Global, words: &[String]) -> Result<Job, Refusal>
     ensures ok { IfOk result (λ job. job_of (map string_bytes words.now) ≡ Some job) }
     ensures text { IfOk result (λ job. IsTrue (is_utf8 job.target)) }
-    ensures refused { IfErr result (λ end. (end ≡ End.NoMemory) ⊎ ((end ≡ End.Usage UsageFault.Words) × (job_of (map string_bytes words.now) ≡ None))) }
+    ensures refused { IfErr result (λ refusal. (refusal ≡ Refusal.NoMemory)
+        ⊎ ((refusal ≡ Refusal.Usage UsageFault.Words) × (job_of (map string_bytes words.now) ≡ None))) }
 {
     match read_words(alloc, words) {
         Ok(job) => Ok(job),
-        Err(UsageFault::NoMemory) => Err(End::NoMemory),
-        Err(UsageFault::Words) => Err(End::Usage(UsageFault::Words)),
+        Err(UsageFault::NoMemory) => Err(Refusal::NoMemory),
+        Err(UsageFault::Words) => Err(Refusal::Usage(UsageFault::Words)),
+    }
+}
+
+// That no file stands where the job's manifest is due.
+fn no_file(alloc: Global, job: &Job) -> Refusal
+    ensures { (result ≡ Refusal.NoFile job.now.file) ⊎ (result ≡ Refusal.NoMemory) }
+{
+    match job.file.copy(alloc) {
+        Ok(path) => Refusal::NoFile { path },
+        Err(_) => Refusal::NoMemory,
     }
 }
 
 // The bytes of the job's manifest.
-fn bytes_of<L: Law, W: World<L>>(
-    alloc: Global,
-    job: &Job,
-    world: &mut W,
-) -> Result<Bytes, End<NoFault>>
-    ensures ok { IfOk result (λ bytes. IsAnswer W.at W.told W.tells world.old world.new job.now.file (FileBytes.Bytes bytes)) }
-    ensures refused { IfErr result (IsReadEnd W.at W.told W.tells world.old world.new (W.faults world.old) (W.faults world.new) job.now) }
-    ensures moved { Moved W.told W.tells W.at W.faults (λ p. ⊥) world.old world.new }
-    ensures orders { W.orders world.new ≡ W.orders world.old }
-    ensures begins { W.begins world.new ≡ W.begins world.old }
+fn bytes_of<L: Law, W: World<L>>(alloc: Global, job: &Job, world: &mut W) -> Result<Bytes, Refusal>
+    ensures ok { IfOk result (λ bytes. IsAnswer W.gave (W.view world.old) (W.view world.new) job.now.file (FileBytes.Bytes bytes)) }
+    ensures refused { IfErr result (IsUnread W.gave (W.view world.old) (W.view world.new) job.now) }
+    ensures stayed { Stayed (W.view world.old) (W.view world.new) }
 {
-    match world.read(alloc, &job.file, MANIFEST_MAX) {
-        Ok(FileBytes::Bytes(bytes)) => Ok(bytes),
-        Ok(FileBytes::Missing | FileBytes::NotFile) => Err(End::NoFile {
-            path: job.file.copy(alloc)?,
-        }),
-        Ok(FileBytes::TooLong) => Err(End::Manifest(LoadError::Yaml(YamlError::TooLong))),
-        Err(DiskError::NoMemory) => Err(End::NoMemory),
-        Err(_) => Err(End::DiskFault),
+    match world.read(alloc, &job.file, MANIFEST_MAX)? {
+        FileBytes::Bytes(bytes) => Ok(bytes),
+        FileBytes::Missing => Err(no_file(alloc, job)),
+        FileBytes::NotFile => Err(no_file(alloc, job)),
+        FileBytes::TooLong => Err(Refusal::Manifest(LoadError::Yaml(YamlError::TooLong))),
     }
 }
 
-fn manifest_of(alloc: Global, bytes: &Bytes) -> Result<Manifest, End<NoFault>>
+// The manifest of these bytes.
+fn manifest_of(alloc: Global, bytes: &Bytes) -> Result<Manifest, Refusal>
     ensures ok { IfOk result (λ manifest. loaded bytes.now ≡ Ok manifest) }
-    ensures refused { IfErr result (IsLoadEnd bytes.now) }
+    ensures refused { IfErr result (IsUnloaded bytes.now) }
 {
-    match load(alloc, bytes.as_slice()) {
-        Ok(manifest) => Ok(manifest),
-        Err(LoadError::NoMemory) => Err(End::NoMemory),
-        Err(error) => Err(End::Manifest(error)),
-    }
+    let manifest = load(alloc, bytes.as_slice())?;
+    Ok(manifest)
 }
 
 /// Reads the manifest that the words ask for.
@@ -95,13 +85,12 @@ pub fn open<L: Law, W: World<L>>(
     alloc: Global,
     words: &[String],
     world: &mut W,
-) -> Result<Opened, End<NoFault>>
-    ensures ok { IfOk result (λ opened. IsOpened W.at W.told W.tells world.old world.new (map string_bytes words.now) opened.manifest opened.target) }
+) -> Result<Opened, Refusal>
+    ensures ok { IfOk result (λ opened.
+        IsOpened W.gave (W.view world.old) (W.view world.new) (map string_bytes words.now) (opened.manifest, opened.target)) }
     ensures text { IfOk result (λ opened. IsTrue (is_utf8 opened.target)) }
-    ensures refused { IfErr result (IsEarlyEnd W.at W.told W.tells world.old world.new (W.faults world.old) (W.faults world.new) (map string_bytes words.now)) }
-    ensures moved { Moved W.told W.tells W.at W.faults (λ p. ⊥) world.old world.new }
-    ensures orders { W.orders world.new ≡ W.orders world.old }
-    ensures begins { W.begins world.new ≡ W.begins world.old }
+    ensures refused { IfErr result (IsRefusal W.gave (W.view world.old) (W.view world.new) (map string_bytes words.now)) }
+    ensures stayed { Stayed (W.view world.old) (W.view world.new) }
 {
     let job = job_of(alloc, words)?;
     let bytes = bytes_of(alloc, &job, world)?;
@@ -110,4 +99,15 @@ pub fn open<L: Law, W: World<L>>(
         manifest,
         target: job.target,
     })
+}
+
+/// The target of this name, which is UTF-8. None exactly where the manifest has none.
+pub fn target_in<'m>(manifest: &'m Manifest, name: &Bytes) -> Option<&'m TargetEntry>
+    requires { IsTrue (is_utf8 name.now) }
+    ensures { option_copied result ≡ target_named manifest.now.targets name.now }
+{
+    match std::str::from_utf8(name.as_slice()) {
+        Ok(name) => manifest.target(name),
+        Err(_) => None,
+    }
 }

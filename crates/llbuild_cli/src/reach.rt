@@ -22,7 +22,7 @@ fn mark(manifest: &Manifest, inputs: &List<Input>, marks: &mut [bool])
     }
 }
 
-// Marks the commands that these nodes need. A command stands behind the makers of its inputs, so one walk from the last to
+// Marks the commands that these nodes need. A command stands after the makers of its inputs, so one walk from the last to
 // the first suffices.
 fn walk(manifest: &Manifest, nodes: &List<Input>, marks: &mut [bool])
     requires loaded { IsManifest manifest.now }

@@ -1,16 +1,20 @@
-//! Whole runs over worlds and sinks in memory.
+//! Whole runs, over worlds in memory and over real files.
 ghost use Rattle.std.specs.Prelude.{◌≡◌, [], IfOk};
 
 use crate::in_memory::run_in_memory;
-use crate::report::{End, Finish, Heard, Outcome, Reason, Start, StatSeen};
+use crate::report::{End, Finish, Heard, Outcome, Reason, Start};
+use crate::run::run_alone;
 use file_info::info::Info;
 use file_info::list::{Bytes, List};
 use file_info::path::PathName;
 use memory_world::memory::MemoryWorld;
 use memory_world::sinks::VecSink;
+use memory_world::toy::ToyLaw;
 use memory_world::write::What;
 use outside::world::{NoFault, World};
+use real_world::world::RealWorld;
 use std::alloc::Global;
+use std::fs;
 use std::process::Abort;
 use std::test::Fail;
 
@@ -30,6 +34,19 @@ const CHAIN: &str =
 
 const CHAIN_OUT: &str = "[1] first\n[2] second\n[3] third\nok: 3 started\n";
 
+// What a run in memory meets: the manifest, the text of `s`, the words, the numbers of the calls that fail, and how many
+// bytes `out` takes.
+#[derive(Clone, Copy)]
+struct Setting<'a> {
+    manifest: &'a str,
+    source: Option<&'a str>,
+    line: &'a str,
+    world_fails: &'a [u64],
+    out_fails: &'a [u64],
+    err_fails: &'a [u64],
+    room: usize,
+}
+
 // A run, and what it left.
 #[derive(Drop)]
 struct Ran {
@@ -39,16 +56,24 @@ struct Ran {
     err: VecSink,
 }
 
-fn bytes(alloc: Global, text: &str) -> Result<Bytes, Fail> {
-    Ok(List::from_vec(Vec::from_slice(alloc, text.as_bytes())?))
+fn without_faults<'a>(manifest: &'a str, source: Option<&'a str>, line: &'a str) -> Setting<'a> {
+    Setting {
+        manifest,
+        source,
+        line,
+        world_fails: &[],
+        out_fails: &[],
+        err_fails: &[],
+        room: 1000,
+    }
 }
 
 fn numbers(alloc: Global, numbers: &[u64]) -> Result<List<u64>, Fail> {
     Ok(List::from_vec(Vec::from_slice(alloc, numbers)?))
 }
 
-fn sink(alloc: Global, failing: &[u64]) -> Result<VecSink, Fail> {
-    Ok(VecSink::new(alloc, 1000, numbers(alloc, failing)?)?)
+fn sink(alloc: Global, room: usize, failing: &[u64]) -> Result<VecSink, Fail> {
+    Ok(VecSink::new(alloc, room, numbers(alloc, failing)?)?)
 }
 
 fn words_of(alloc: Global, line: &str) -> Result<Vec<String>, Fail> {
@@ -64,39 +89,27 @@ fn set(alloc: Global, world: &mut MemoryWorld, at: &str, text: &str) -> Result<(
     ensures { world.new.begun ≡ world.old.begun }
 {
     let path = PathName::read(alloc, at)?;
-    let text = bytes(alloc, text)?;
+    let text: Bytes = List::from_vec(Vec::from_slice(alloc, text.as_bytes())?);
     world.set(alloc, &path, text)?;
     Ok(())
 }
 
-// A world with a manifest, and with `s` where it has a text, in which the calls of these numbers fail.
-fn world_of(
-    alloc: Global,
-    manifest: &str,
-    source: Option<&str>,
-    failing: &[u64],
-) -> Result<MemoryWorld, Fail>
+fn world_of(alloc: Global, setting: &Setting<'_>) -> Result<MemoryWorld, Fail>
     ensures { IfOk result (λ world. world.begun ≡ []) }
 {
-    let mut world = MemoryWorld::new(alloc, numbers(alloc, failing)?);
-    set(alloc, &mut world, "m.llbuild", manifest)?;
-    if let Some(text) = source {
+    let mut world = MemoryWorld::new(alloc, numbers(alloc, setting.world_fails)?);
+    set(alloc, &mut world, "m.llbuild", setting.manifest)?;
+    if let Some(text) = setting.source {
         set(alloc, &mut world, "s", text)?;
     }
     Ok(world)
 }
 
-// What these words do over this world.
-fn run(
-    alloc: Global,
-    line: &str,
-    mut world: MemoryWorld,
-    mut out: VecSink,
-    mut err: VecSink,
-) -> Result<Ran, Fail>
-    requires { world.begun ≡ [] }
-{
-    let words = words_of(alloc, line)?;
+fn run(alloc: Global, setting: &Setting<'_>) -> Result<Ran, Fail> {
+    let words = words_of(alloc, setting.line)?;
+    let mut world = world_of(alloc, setting)?;
+    let mut out = sink(alloc, setting.room, setting.out_fails)?;
+    let mut err = sink(alloc, 1000, setting.err_fails)?;
     let finish = run_in_memory(alloc, words.as_slice(), &mut world, &mut out, &mut err);
     Ok(Ran {
         finish,
@@ -104,14 +117,6 @@ fn run(
         out,
         err,
     })
-}
-
-// What these words do where no call fails.
-fn run_well(alloc: Global, manifest: &str, source: Option<&str>, line: &str) -> Result<Ran, Fail> {
-    let world = world_of(alloc, manifest, source, &[])?;
-    let out = sink(alloc, &[])?;
-    let err = sink(alloc, &[])?;
-    run(alloc, line, world, out, err)
 }
 
 fn end_name(end: &End<NoFault>) -> &'static str {
@@ -156,21 +161,27 @@ fn all_done(rt: &impl Abort, heard: &List<Heard>, names: &[&str]) {
     }
 }
 
-// The source `s` was asked for, once, and nothing else was.
-fn asked_for_source(rt: &impl Abort, stats: &List<StatSeen>) {
-    assert_eq!(rt; stats.len(), 1);
-    for seen in stats.as_slice() {
+// The whole build of these commands succeeded: it wrote this, and it asked for `s` once and for nothing else.
+fn built(rt: &impl Abort, ran: &Ran, names: &[&str], out: &str) {
+    ended(rt, ran, "Ok", 0, "");
+    assert_eq!(rt; ran.out.bytes(), out.as_bytes());
+    started(rt, &ran.finish.report.starts, names);
+    all_done(rt, &ran.finish.report.heard, names);
+    assert_eq!(rt; ran.finish.report.stats.len(), 1);
+    for seen in ran.finish.report.stats.as_slice() {
         assert_eq!(rt; seen.path.text(), "s");
         assert!(rt; matches!(&seen.info, Info::File { .. }));
     }
 }
 
-// A beginning of what a whole build of `CHAIN` writes was written, with a line for each start.
-fn wrote_part(rt: &impl Abort, ran: &Ran) {
+// A build of `CHAIN` stopped after so many starts: a beginning of what the whole build writes was written, with a line for
+// each start.
+fn stopped(rt: &impl Abort, ran: &Ran, starts: usize) {
     let out = ran.out.bytes();
     let lines = out.iter().filter(|byte| **byte == b'\n').count();
     assert!(rt; CHAIN_OUT.as_bytes().starts_with(out));
-    assert_eq!(rt; lines, ran.finish.report.starts.len());
+    assert_eq!(rt; lines, starts);
+    assert_eq!(rt; ran.finish.report.starts.len(), starts);
 }
 
 // The last write left a file with these bytes at this path.
@@ -185,35 +196,19 @@ fn wrote_last(rt: &impl Abort, world: &MemoryWorld, path: &str, text: &[u8]) {
     }
 }
 
-// What another program gave for the digest of this command on this source.
+// What another program gave for the digest of the command of `ONE` on the source `one`.
 const DIGEST: [u8; 32] = [
     0xcf, 0x6e, 0x4c, 0xf7, 0x06, 0x0b, 0xfa, 0x76, 0x1b, 0xa0, 0xd7, 0x96, 0xf5, 0x49, 0x6c, 0x06,
     0xf3, 0x99, 0x65, 0x4c, 0x29, 0x17, 0xf8, 0x34, 0x17, 0x55, 0xc7, 0xde, 0x38, 0xf7, 0xe2, 0x6c,
 ];
 
 #[test]
-fn one_command_is_built(rt: HostRuntime) -> Result<(), Fail> {
-    let ran = run_well(rt.alloc(), ONE, Some("one"), LINE)?;
-    ended(&rt, &ran, "Ok", 0, "");
-    assert_eq!(rt; ran.out.bytes(), b"[1] p\nok: 1 started\n".as_slice());
-    started(&rt, &ran.finish.report.starts, &["p"]);
-    all_done(&rt, &ran.finish.report.heard, &["p"]);
-    wrote_last(&rt, &ran.world, "t", DIGEST.as_slice());
-    Ok(())
-}
-
-#[test]
-fn three_commands_are_built(rt: HostRuntime) -> Result<(), Fail> {
-    let ran = run_well(rt.alloc(), CHAIN, Some("one"), LINE)?;
-    ended(&rt, &ran, "Ok", 0, "");
-    assert_eq!(rt; ran.out.bytes(), CHAIN_OUT.as_bytes());
-    started(
-        &rt,
-        &ran.finish.report.starts,
-        &["first", "second", "third"],
-    );
-    all_done(&rt, &ran.finish.report.heard, &["first", "second", "third"]);
-    asked_for_source(&rt, &ran.finish.report.stats);
+fn needed_commands_are_built(rt: HostRuntime) -> Result<(), Fail> {
+    let one = run(rt.alloc(), &without_faults(ONE, Some("one"), LINE))?;
+    built(&rt, &one, &["p"], "[1] p\nok: 1 started\n");
+    wrote_last(&rt, &one.world, "t", DIGEST.as_slice());
+    let chain = run(rt.alloc(), &without_faults(CHAIN, Some("one"), LINE))?;
+    built(&rt, &chain, &["first", "second", "third"], CHAIN_OUT);
     Ok(())
 }
 
@@ -333,19 +328,11 @@ const ROWS: [(&str, Option<&str>, &str, &str, u8, &str, &str); 12] = [
 #[test]
 fn failures_have_their_ends(rt: HostRuntime) -> Result<(), Fail> {
     for (manifest, source, line, end, status, out, err) in ROWS {
-        let ran = run_well(rt.alloc(), manifest, source, line)?;
+        let ran = run(rt.alloc(), &without_faults(manifest, source, line))?;
         ended(&rt, &ran, end, status, err);
         assert_eq!(rt; ran.out.bytes(), out.as_bytes());
     }
     Ok(())
-}
-
-// Builds `CHAIN` where the calls of these numbers fail.
-fn run_chain(alloc: Global, world: &[u64], out: &[u64]) -> Result<Ran, Fail> {
-    let world = world_of(alloc, CHAIN, Some("one"), world)?;
-    let out = sink(alloc, out)?;
-    let err = sink(alloc, &[])?;
-    run(alloc, LINE, world, out, err)
 }
 
 // How many commands of `CHAIN` are started when the first call of the world fails, the second and so on. The manifest is
@@ -354,68 +341,148 @@ const STARTED: [usize; 11] = [0, 1, 1, 1, 1, 2, 2, 2, 3, 3, 3];
 
 #[test]
 fn each_call_of_the_world_fails(rt: HostRuntime) -> Result<(), Fail> {
-    for (place, started) in STARTED.iter().enumerate() {
-        let ran = run_chain(rt.alloc(), &[place as u64 + 1], &[])?;
+    for (place, starts) in STARTED.iter().enumerate() {
+        let failing = Setting {
+            world_fails: &[place as u64 + 1],
+            ..without_faults(CHAIN, Some("one"), LINE)
+        };
+        let ran = run(rt.alloc(), &failing)?;
         ended(&rt, &ran, "DiskFault", 3, "error: the disk failed\n");
-        wrote_part(&rt, &ran);
-        assert_eq!(rt; ran.finish.report.starts.len(), *started, "at {place}");
+        stopped(&rt, &ran, *starts);
         assert_eq!(rt; ran.world.faults(), 1);
         assert_eq!(rt; ran.world.begun(), 0);
     }
-    let ran = run_chain(rt.alloc(), &[STARTED.len() as u64 + 1], &[])?;
-    ended(&rt, &ran, "Ok", 0, "");
-    assert_eq!(rt; ran.out.bytes(), CHAIN_OUT.as_bytes());
-    assert_eq!(rt; ran.world.faults(), 0);
     Ok(())
 }
 
 // There is one call for each line.
 #[test]
 fn each_call_of_out_fails(rt: HostRuntime) -> Result<(), Fail> {
-    for number in 1..5 {
-        let ran = run_chain(rt.alloc(), &[], &[number])?;
+    for starts in 0..4_usize {
+        let failing = Setting {
+            out_fails: &[starts as u64 + 1],
+            ..without_faults(CHAIN, Some("one"), LINE)
+        };
+        let ran = run(rt.alloc(), &failing)?;
         ended(&rt, &ran, "SinkFault", 3, "");
-        wrote_part(&rt, &ran);
-        assert_eq!(rt; ran.finish.report.starts.len() as u64, number - 1);
-        assert_eq!(rt; ran.finish.report.heard.len() as u64, number - 1);
+        stopped(&rt, &ran, starts);
+        assert_eq!(rt; ran.finish.report.heard.len(), starts);
         assert_eq!(rt; ran.out.faults(), 1);
     }
-    let ran = run_chain(rt.alloc(), &[], &[5])?;
-    ended(&rt, &ran, "Ok", 0, "");
-    assert_eq!(rt; ran.out.bytes(), CHAIN_OUT.as_bytes());
-    assert_eq!(rt; ran.out.faults(), 0);
     Ok(())
-}
-
-// Builds `CHAIN` where so many bytes can be written.
-fn run_in_room(alloc: Global, room: usize) -> Result<Ran, Fail> {
-    let world = world_of(alloc, CHAIN, Some("one"), &[])?;
-    let out = VecSink::new(alloc, room, List::new(alloc))?;
-    let err = sink(alloc, &[])?;
-    run(alloc, LINE, world, out, err)
 }
 
 #[test]
 fn out_has_little_room(rt: HostRuntime) -> Result<(), Fail> {
     for room in 0..CHAIN_OUT.len() {
-        let ran = run_in_room(rt.alloc(), room)?;
+        let little = Setting {
+            room,
+            ..without_faults(CHAIN, Some("one"), LINE)
+        };
+        let ran = run(rt.alloc(), &little)?;
         ended(&rt, &ran, "SinkFault", 3, "");
-        wrote_part(&rt, &ran);
+        stopped(&rt, &ran, ran.finish.report.starts.len());
         assert_eq!(rt; ran.out.bytes().len(), room);
     }
-    let ran = run_in_room(rt.alloc(), CHAIN_OUT.len())?;
-    ended(&rt, &ran, "Ok", 0, "");
-    assert_eq!(rt; ran.out.bytes(), CHAIN_OUT.as_bytes());
     Ok(())
 }
 
+// A fault of `err` changes no end.
 #[test]
-fn a_fault_of_err_changes_no_end(rt: HostRuntime) -> Result<(), Fail> {
-    let alloc = rt.alloc();
-    let world = world_of(alloc, ONE, None, &[])?;
-    let ran = run(alloc, LINE, world, sink(alloc, &[])?, sink(alloc, &[1])?)?;
+fn err_fails(rt: HostRuntime) -> Result<(), Fail> {
+    let failing = Setting {
+        err_fails: &[1],
+        ..without_faults(ONE, None, LINE)
+    };
+    let ran = run(rt.alloc(), &failing)?;
     ended(&rt, &ran, "MissingInput", 1, "");
     assert_eq!(rt; ran.out.bytes(), b"".as_slice());
     assert_eq!(rt; ran.err.faults(), 1);
+    Ok(())
+}
+
+const REAL_FILE: &str = "llbuild_cli_test.llbuild";
+
+const REAL_OUTPUT: &str = "llbuild_cli_test.o";
+
+// A target for each way in which a real command can end.
+const REAL: &str =
+    "client: {name: basic}\ntargets: {good: [llbuild_cli_test.o], bad: [a], killed: [b], unknown: [c], missing: [d]}\ncommands:\n  touch: {tool: shell, outputs: [llbuild_cli_test.o], args: [touch, llbuild_cli_test.o]}\n  false: {tool: shell, outputs: [a], args: ['false']}\n  kill: {tool: shell, outputs: [b], args: [sh, -c, 'kill -9 $$']}\n  unknown: {tool: shell, outputs: [c], args: [llbuild_cli_test_of_no_program]}\n  copy: {tool: shell, inputs: [llbuild_cli_test_of_no_source], outputs: [d], args: [cp, s, d]}\n";
+
+// The words, the end, the status and what is written.
+const REAL_ROWS: [(&str, &str, u8, &str, &str); 5] = [
+    (
+        "buildsystem build --serial --no-db -f llbuild_cli_test.llbuild good",
+        "Ok",
+        0,
+        "[1] touch\nok: 1 started\n",
+        "",
+    ),
+    (
+        "buildsystem build --serial --no-db -f llbuild_cli_test.llbuild bad",
+        "CommandFailed",
+        1,
+        "[1] false\n",
+        "error: command false ended with status 1\n",
+    ),
+    (
+        "buildsystem build --serial --no-db -f llbuild_cli_test.llbuild killed",
+        "CommandFailed",
+        1,
+        "[1] kill\n",
+        "error: command kill was killed\n",
+    ),
+    (
+        "buildsystem build --serial --no-db -f llbuild_cli_test.llbuild unknown",
+        "DiskFault",
+        3,
+        "[1] unknown\n",
+        "error: the disk failed\n",
+    ),
+    (
+        "buildsystem build --serial --no-db -f llbuild_cli_test.llbuild missing",
+        "MissingInput",
+        1,
+        "",
+        "error: copy needs llbuild_cli_test_of_no_source, which is missing\n",
+    ),
+];
+
+// A run over real files, and what it wrote.
+#[derive(Drop)]
+struct RealRan {
+    finish: Finish<NoFault>,
+    out: VecSink,
+    err: VecSink,
+}
+
+fn run_real(rt: HostRuntime, line: &str) -> Result<RealRan, Fail> {
+    let alloc = rt.alloc();
+    let words = words_of(alloc, line)?;
+    let mut out = sink(alloc, 1000, &[])?;
+    let mut err = sink(alloc, 1000, &[])?;
+    let mut world = RealWorld::new(rt);
+    let finish = run_alone::<ToyLaw, _, _, _>(
+        alloc,
+        words.as_slice(),
+        &mut world,
+        &mut out,
+        &mut err,
+    );
+    Ok(RealRan { finish, out, err })
+}
+
+#[test]
+fn real_commands_have_their_ends(rt: HostRuntime) -> Result<(), Fail> {
+    fs::write(&rt, REAL_FILE, REAL.as_bytes())?;
+    for (line, end, status, out, err) in REAL_ROWS {
+        let ran = run_real(rt, line)?;
+        assert_eq!(rt; end_name(&ran.finish.report.end), end);
+        assert_eq!(rt; ran.finish.status, status);
+        assert_eq!(rt; ran.out.bytes(), out.as_bytes());
+        assert_eq!(rt; ran.err.bytes(), err.as_bytes());
+    }
+    fs::remove_file(&rt, REAL_OUTPUT)?;
+    fs::remove_file(&rt, REAL_FILE)?;
     Ok(())
 }

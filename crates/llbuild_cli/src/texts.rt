@@ -58,14 +58,14 @@ pub fn line_of(alloc: Global, place: u64, start: &Start) -> Result<Vec<u8>, NoMe
     Ok(line)
 }
 
-/// The line behind a build that succeeded.
+/// The line after a build that succeeded.
 pub fn summary(alloc: Global, starts: u64) -> Result<Vec<u8>, NoMemory>
     ensures { IfOk result (λ text. text.items ≡ summary_text starts) }
 {
     Ok(format!(in alloc; "ok: {starts} started\n")?.into_bytes())
 }
 
-// A text, and the place of a byte behind it.
+// A text, and the place of a byte after it.
 #[tactic(auto, unfolding(crate::specs::Shown::at_byte))]
 fn push_at(alloc: Global, out: &mut Vec<u8>, text: &[u8], at: u64) -> Result<(), AllocError>
     ensures { OnOk result (out.new.items ≡ out.old.items ++ at_byte text.now at) }
@@ -165,18 +165,18 @@ fn push_missing(out: &mut Vec<u8>, asker: &Name, node: &Name) -> Result<(), Allo
     out.extend_from_slice(b", which is missing")
 }
 
-// A text, and something shown behind it.
+// A text, and something shown after it.
 fn push_named(
     out: &mut Vec<u8>,
     before: &[u8],
     shown: &[u8],
-    behind: &[u8],
+    after: &[u8],
 ) -> Result<(), AllocError>
-    ensures { OnOk result (out.new.items ≡ out.old.items ++ (before.now ++ show shown.now ++ behind.now)) }
+    ensures { OnOk result (out.new.items ≡ out.old.items ++ (before.now ++ show shown.now ++ after.now)) }
 {
     out.extend_from_slice(before)?;
     push_shown(out, shown)?;
-    out.extend_from_slice(behind)
+    out.extend_from_slice(after)
 }
 
 fn push_usage(out: &mut Vec<u8>, fault: UsageFault) -> Result<(), AllocError>

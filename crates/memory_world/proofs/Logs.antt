@@ -1,14 +1,14 @@
 -- The log of writes.
 use Rattle.std.proofs.Common.{◌≡◌, ℕ, Bool, true, false, cond, List, [], ◌∷◌, ◌++◌, refl, inl, inr, ap, sym, ◌∙◌, subst, eq-eqb, eqb-true, eqb}
 use Rattle.std.specs.Prelude.{◌&&◌, Option, Some, None}
-use Rattle.file_info.specs.Content.{Known, content, same_list, Text}
+use Rattle.file_info.specs.Content.{Known, content, same_list, text_at, Text}
 use Rattle.file_info.specs.Lists.{In}
 use Rattle.file_info.specs.declared.info.Form.{Form}
 use Rattle.file_info.specs.declared.info.Form.TheVariants.{Follow, Link as AsLink}
 use Rattle.memory_world.specs.declared.write.What.{What}
 use Rattle.memory_world.specs.declared.write.What.TheVariants.{Gone, Dir, Bytes, LinkText}
 use Rattle.memory_world.specs.declared.write.Write.{Write}
-use Rattle.memory_world.specs.Log.{later, last_of, info_of, what_info, content_of, what_content, standing, AgreesAt, Tells}
+use Rattle.memory_world.specs.Log.{later, last_of, info_of, what_info, content_of, what_content, standing, AgreesAt, with_known, known_of, Tells}
 use Rattle.memory_world.proofs.Ins.{In-left}
 
 pub same_list-refl : (xs : List ℕ) → same_list xs xs ≡ true
@@ -77,6 +77,37 @@ last-in (v ∷ ws) p w e = go (last_of ws p) refl e (last-in ws p)
     go (Some u) h f ih = (let same : u ≡ w = cc f in let r = ih w (h ∙ ap Some same) in (inr r.0, r.1))
     go None h f ih = one (same_list v.path p) refl f
 
+known-here : (p : List ℕ) (n : ℕ) (x : What) (known m : List Known) → ((k : Known) → In k (with_known p n x known) → text_at m k.path k.info ≡ k.text) → AgreesAt m p n x
+known-here p n Gone known m h = tt
+known-here p n Dir known m h = tt
+known-here p n (Bytes b) known m h = h _ (inl refl)
+known-here p n (LinkText t) known m h = tt
+
+known-more : (p : List ℕ) (n : ℕ) (x : What) (known : List Known) (k : Known) → In k known → In k (with_known p n x known)
+known-more p n Gone known k i = i
+known-more p n Dir known k i = i
+known-more p n (Bytes b) known k i = inr i
+known-more p n (LinkText t) known k i = i
+
+known-from : (p : List ℕ) (n : ℕ) (x : What) (known m : List Known) → AgreesAt m p n x → ((k : Known) → In k known → text_at m k.path k.info ≡ k.text)
+    → (k : Known) → In k (with_known p n x known) → text_at m k.path k.info ≡ k.text
+known-from p n Gone known m a rest k i = rest k i
+known-from p n Dir known m a rest k i = rest k i
+known-from p n (Bytes b) known m a rest k (inl e) = subst (λ (z : Known). text_at m z.path z.info ≡ z.text) (sym e) a
+known-from p n (Bytes b) known m a rest k (inr i) = rest k i
+known-from p n (LinkText t) known m a rest k i = rest k i
+
+-- what agrees with the log agrees with each write
+pub agrees-at : (ws : List Write) (m : List Known) → Tells ws m → (w : Write) → In w ws → AgreesAt m w.path w.number w.what
+agrees-at [] m t w i = absurd i
+agrees-at (v ∷ ws) m t w (inl e) = subst (λ (z : Write). AgreesAt m z.path z.number z.what) (sym e) (known-here v.path v.number v.what (known_of ws) m t)
+agrees-at (v ∷ ws) m t w (inr i) = agrees-at ws m (λ k j. t k (known-more v.path v.number v.what (known_of ws) k j)) w i
+
+-- what agrees with each write agrees with the log
+pub agrees-all : (ws : List Write) (m : List Known) → ((w : Write) → In w ws → AgreesAt m w.path w.number w.what) → Tells ws m
+agrees-all [] m h k i = absurd i
+agrees-all (v ∷ ws) m h k i = known-from v.path v.number v.what (known_of ws) m (h v (inl refl)) (agrees-all ws m (λ w j. h w (inr j))) k i
+
 what-told : (m : List Known) (p : List ℕ) (n : ℕ) (x : What) (f : Form) → AgreesAt m p n x → content m p (what_info n x f) ≡ what_content x f
 unfolding content
 what-told m p n Gone f a = refl
@@ -94,10 +125,10 @@ standing-told ws m t p f = go (last_of ws p) refl
     go None e = refl
     go (Some w) e =
         let r = last-in ws p w e in
-        what-told m p w.number w.what f (subst (λ (q : List ℕ). AgreesAt m q w.number w.what) r.1 (t w r.0))
+        what-told m p w.number w.what f (subst (λ (q : List ℕ). AgreesAt m q w.number w.what) r.1 (agrees-at ws m t w r.0))
 
 pub Tells-before : (old more : List Write) (m : List Known) → Tells (old ++ more) m → Tells old m
-Tells-before old more m t w i = t w (In-left w old more i)
+Tells-before old more m t = agrees-all old m (λ w i. agrees-at (old ++ more) m t w (In-left w old more i))
 
 -- one write more
 pub last-put : (ws : List Write) (w : Write) → last_of (ws ++ w ∷ []) w.path ≡ Some w
@@ -108,13 +139,4 @@ last-put_apart ws w p h = last-append ws w p ∙ go (same_list w.path p) refl
   where
     go : (b : Bool) → same_list w.path p ≡ b → cond b (Some w) (last_of ws p) ≡ last_of ws p
     go true f = absurd (h (same_list-true w.path p f))
-    go false f = refl
-
--- a test of two lists that answers where they are equal
-pub same_list-is : (xs ys : List ℕ) (b : Bool) → (b ≡ true → xs ≡ ys) → (b ≡ false → xs ≡ ys → ⊥) → b ≡ same_list xs ys
-same_list-is xs ys true same other = sym (ap (λ (q : List ℕ). same_list q ys) (same refl) ∙ same_list-refl ys)
-same_list-is xs ys false same other = go (same_list xs ys) refl
-  where
-    go : (b : Bool) → same_list xs ys ≡ b → false ≡ b
-    go true f = absurd (other refl (same_list-true xs ys f))
     go false f = refl

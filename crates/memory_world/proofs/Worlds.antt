@@ -1,6 +1,6 @@
 -- A world whose log went on.
-use Rattle.std.proofs.Common.{◌≡◌, ℕ, true, false, List, refl, inl, ap, sym, ◌∙◌, subst}
-use Rattle.std.specs.Prelude.{⊤, Option, Some, None}
+use Rattle.std.proofs.Common.{◌≡◌, ◌≤◌, ℕ, true, false, List, refl, inl, ap, sym, ◌∙◌, subst}
+use Rattle.std.specs.Prelude.{Option, Some, None}
 use Rattle.file_info.specs.Content.{Known, content}
 use Rattle.file_info.specs.Lists.{In}
 use Rattle.file_info.specs.declared.info.Info.TheVariants as infos
@@ -11,17 +11,27 @@ use Rattle.outside.specs.declared.order.Order.{Order}
 use Rattle.memory_world.specs.declared.write.What.{What}
 use Rattle.memory_world.specs.declared.write.What.TheVariants.{Gone, Dir, Bytes, LinkText}
 use Rattle.memory_world.specs.declared.write.Write.{Write}
-use Rattle.outside.specs.Telling.{Keeps}
+use Rattle.outside.specs.Telling.{Keeps, Stayed}
 use Rattle.outside.specs.Reading.{bytes_of}
 use Rattle.outside.specs.Outcomes.{SameBut, KeepsDirectories}
 use Rattle.memory_world.specs.Log.{later, last_of, info_of, what_info, standing, Tells}
 use Rattle.memory_world.specs.Performed.{is_directory, WentOn}
-use Rattle.memory_world.specs.Memory.{Memory}
+use Rattle.memory_world.specs.Memory.{seen_of}
 use Rattle.memory_world.proofs.Logs.{last-split, last-in, last-apart, standing-told, Tells-before}
 
 -- the same writes tell the same
-pub keeps_writes : (old new : Memory) → new.writes ≡ old.writes → Keeps {D = Memory} (λ w. ⊤) (λ w m. Tells w.writes m) old new
-keeps_writes old new e = record { infos = λ t. t; contents = λ m t. subst (λ (ws : List Write). Tells ws m) e t }
+pub keeps_writes : {f g b d : ℕ} {o p : List Order} (was ws : List Write) → ws ≡ was → Keeps (seen_of was f o b) (seen_of ws g p d)
+keeps_writes was ws e = record { infos = λ t. t; contents = λ m t. subst (λ (xs : List Write). Tells xs m) e t }
+
+-- a call that reads
+pub stayed_writes : {f g b d : ℕ} {o p : List Order} (was ws : List Write) → ws ≡ was → f ≤ g → p ≡ o → d ≡ b → Stayed (seen_of was f o b) (seen_of ws g p d)
+stayed_writes was ws e later orders begins = record {
+  keeps = keeps_writes was ws e;
+  same = λ t. ap (λ (xs : List Write). λ (q : List ℕ) (h : Form). info_of (last_of xs q) h) e;
+  later = later;
+  orders = orders;
+  begins = begins;
+}
 
 -- what is read is what the map gives
 pub read-told : (ws was : List Write) (m : List Known) (p : List ℕ) (most : ℕ) (b : FileBytes) → Tells ws m → ws ≡ was → b ≡ bytes_of most (standing ws p Follow)
@@ -30,8 +40,8 @@ read-told ws was m p most b t same e =
     e ∙ ap (bytes_of most) (sym (standing-told ws m t p Follow)) ∙ ap (λ (z : List Write). bytes_of most (content m p (info_of (last_of z p) Follow))) same
 
 -- what tells after a log went on told before
-pub went-keeps : (ps : List (List ℕ)) (old new : Memory) → WentOn ps old.writes new.writes → Keeps {D = Memory} (λ w. ⊤) (λ w m. Tells w.writes m) old new
-went-keeps ps old new w = record { infos = λ t. t; contents = λ m t. Tells-before old.writes w.more m (subst (λ (ws : List Write). Tells ws m) w.is t) }
+pub went-keeps : {f g b d : ℕ} {o p : List Order} (ps : List (List ℕ)) (was ws : List Write) → WentOn ps was ws → Keeps (seen_of was f o b) (seen_of ws g p d)
+went-keeps ps was ws w = record { infos = λ t. t; contents = λ m t. Tells-before was w.more m (subst (λ (xs : List Write). Tells xs m) w.is t) }
 
 went-apart : (ps : List (List ℕ)) (old new : List Write) → WentOn ps old new → (p : List ℕ) → (In p ps → ⊥) → last_of new p ≡ last_of old p
 went-apart ps old new w p apart =

@@ -37,6 +37,10 @@ abbrev pub info_of : Option Write → Form → Info
 info_of None f = Missing
 info_of (Some w) f = what_info w.number w.what f
 
+-- the information of a path, as a disk tells it
+abbrev pub info_at : List Write → List ℕ → Form → Info
+info_at ws p f = info_of (last_of ws p) f
+
 abbrev pub what_content : What → Form → Content
 what_content Gone f = Absent
 what_content Dir f = Folder
@@ -60,14 +64,31 @@ AgreesAt m p n Dir = Unit {0}
 AgreesAt m p n (Bytes b) = text_at m p (File (length b) (n ∷ 0 ∷ 0 ∷ 0 ∷ [])) ≡ b
 AgreesAt m p n (LinkText t) = Unit {0}
 
+-- one entry more where bytes were written
+abbrev pub with_known : List ℕ → ℕ → What → List Known → List Known
+with_known p n Gone known = known
+with_known p n Dir known = known
+with_known p n (Bytes b) known = record { path = p; info = File (length b) (n ∷ 0 ∷ 0 ∷ 0 ∷ []); text = b } ∷ known
+with_known p n (LinkText t) known = known
+
+-- all bytes that were written, each at its own information
+abbrev pub known_of : List Write → List Known
+known_of [] = []
+known_of (w ∷ ws) = with_known w.path w.number w.what (known_of ws)
+
 -- the map agrees with each write
 abbrev pub Tells : List Write → List Known → Type 0
-Tells ws m = (w : Write) → In w ws → AgreesAt m w.path w.number w.what
+Tells ws m = (k : Known) → In k (known_of ws) → text_at m k.path k.info ≡ k.text
 
 -- the writes have the numbers from this one on, in their order
 abbrev pub numbered_from : ℕ → List Write → Bool
 numbered_from n [] = true
 numbered_from n (w ∷ ws) = eqb w.number n && numbered_from (suc n) ws
+
+-- all writes, and how many more can be added without memory
+pub record Stored : Type 0 where
+  pub writes : List Write
+  pub room : ℕ
 
 -- the place is that of the last write at the path
 abbrev pub IsPlaceOf : List Write → List ℕ → Option ℕ → Type 0

@@ -1,5 +1,5 @@
 -- What is seen of a world in memory, and the map that agrees with its writes.
-use Rattle.std.specs.Prelude.{⊤, ◌==◌, ℕ, Bool, List, [], ◌∷◌, ◌++◌, length, if◌then◌else◌}
+use Rattle.std.specs.Prelude.{true, Some, ◌==◌, ℕ, Bool, List, [], ◌∷◌, ◌++◌, length, if◌then◌else◌}
 use Rattle.std.specs.List.{list_any}
 use Rattle.file_info.specs.Content.{Known}
 use Rattle.file_info.specs.declared.info.Info.{Info}
@@ -9,8 +9,8 @@ use Rattle.outside.specs.declared.order.Order.{Order}
 use Rattle.memory_world.specs.declared.write.What.{What}
 use Rattle.memory_world.specs.declared.write.What.TheVariants.{Gone, Dir, Bytes, LinkText}
 use Rattle.memory_world.specs.declared.write.Write.{Write}
-use Rattle.outside.specs.Telling.{Keeps, next_count}
-use Rattle.memory_world.specs.Log.{Tells, last_of, info_of}
+use Rattle.outside.specs.Telling.{DiskView, Keeps, next_count}
+use Rattle.memory_world.specs.Log.{known_of, last_of, info_of}
 
 -- all writes, the begun orders, how many orders were begun, the numbers of the calls that fail, how many calls there
 -- were, and how many of them failed
@@ -46,13 +46,28 @@ with_order m order = record m { begun = m.begun ++ order ∷ []; begins = next_c
 abbrev pub with_left : Memory → List Write → List Order → Memory
 with_left m writes orders = record m { writes = writes; begun = orders }
 
--- what tells in the new world told in the old one
-abbrev pub Kept : Memory → Memory → Type 0
-Kept old new = Keeps {D = Memory} (λ w. ⊤) (λ w m. Tells w.writes m) old new
-
 -- what stands at each path, as a disk tells it
 abbrev pub stands : Memory → List ℕ → Form → Info
 stands m path form = info_of (last_of m.writes path) form
+
+-- what is seen of such writes, faults, orders and begins: all is told
+abbrev pub seen_of : List Write → ℕ → List Order → ℕ → DiskView
+seen_of writes faults orders begins = record {
+  at = λ p f. info_of (last_of writes p) f;
+  told = true;
+  held = Some (known_of writes);
+  faults = faults;
+  orders = orders;
+  begins = begins;
+}
+
+-- what is seen of a world in memory
+abbrev pub view_of : Memory → DiskView
+view_of m = seen_of m.writes m.faults m.begun m.begins
+
+-- what tells in the new world told in the old one
+abbrev pub Kept : Memory → Memory → Type 0
+Kept old new = Keeps (view_of old) (view_of new)
 
 abbrev pub text_of : What → List ℕ
 text_of Gone = []

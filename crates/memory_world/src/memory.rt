@@ -8,12 +8,13 @@ ghost use Rattle.outside.specs.declared.order.Exit.TheVariants.{Code};
 ghost use Rattle.outside.specs.Formed.{IsFormed};
 ghost use Rattle.outside.specs.Outcomes.{SameBut, KeepsDirectories, TakenOut, Unchanged, IsFound, found_contents, contents_at};
 ghost use Rattle.outside.specs.Reading.{FitsInfo, bytes_of};
-ghost use Rattle.outside.specs.Telling.{HasCause, next_count};
-ghost use Rattle.memory_world.specs.Performed.{performed, exit_of, WentOn};
+ghost use Rattle.outside.specs.Telling.{Stayed, HasCause, next_count};
+ghost use Rattle.memory_world.specs.Performed.{performed, exit_of};
 ghost use Rattle.memory_world.specs.Log.{last_of, info_of, standing, Tells, numbered_from};
-ghost use Rattle.memory_world.specs.Memory.{is_failing, faults_after, after_call, fails_next, with_order, with_left, Kept, stands, map_of};
+ghost use Rattle.memory_world.specs.Memory.{is_failing, faults_after, after_call, fails_next, with_order, with_left, Kept, stands, view_of, map_of};
 ghost use Rattle.memory_world.specs.Toy.{ToyDoes};
-ghost use Rattle.memory_world.specs.Edits.{way_to, after_set, after_dir, after_drop, with_writes};
+ghost use Rattle.memory_world.specs.Exits.{IsToyExit};
+ghost use Rattle.memory_world.specs.Edits.{after_set, after_dir, after_drop, with_writes};
 
 use crate::command::perform;
 use crate::edits;
@@ -51,7 +52,14 @@ impl Model for MemoryWorld {
 
     ghost Value = { Memory };
 
-    ghost view = { λ w. record { writes = w.files; begun = w.begun.items; begins = w.begins; failing = w.failing; calls = w.calls; faults = w.faults } };
+    ghost view = { λ w. record {
+      writes = w.files.writes;
+      begun = w.begun.items;
+      begins = w.begins;
+      failing = w.failing;
+      calls = w.calls;
+      faults = w.faults;
+    } };
 
     ghost invariant = { λ w. w.failing ≡ [] → w.faults ≡ 0 };
 }
@@ -91,18 +99,18 @@ impl MemoryWorld {
         ensures value { result.now ≡ self.now.writes }
         ensures numbered { IsTrue (numbered_from 1 self.now.writes) }
         ensures told { Tells self.now.writes (map_of self.now.writes) }
-        ensures contents { (m : Items Known) (p : Items ℕ) (f : Form) → Tells self.now.writes m → content m p (info_of (last_of self.now.writes p) f) ≡ standing self.now.writes p f }
+        ensures contents { (m : Items Known) (p : Items ℕ) (f : Form) → Tells self.now.writes m
+            → content m p (info_of (last_of self.now.writes p) f) ≡ standing self.now.writes p f }
     {
         self.files.writes()
     }
 
     /// Writes a file, and makes directories above it where nothing stands. Through a file or a link, and on a directory,
     /// it does nothing. It is no call of a world: it is not counted and cannot fail but for want of memory, and then
-    /// some of the directories may be made.
+    /// nothing is written.
     pub fn set(&mut self, alloc: Global, path: &PathName, text: Bytes) -> Result<(), NoMemory>
         ensures ok { OnOk result (self.new ≡ with_writes self.old (after_set self.old.writes path.now text)) }
-        ensures others { self.new ≡ with_writes self.old self.new.writes }
-        ensures went { WentOn (way_to path.now) self.old.writes self.new.writes }
+        ensures err { OnErr result (self.new ≡ self.old) }
     {
         edits::set(alloc, &mut self.files, path, text)
     }
@@ -111,8 +119,7 @@ impl MemoryWorld {
     /// It is not counted, as `set` is not.
     pub fn dir(&mut self, alloc: Global, path: &PathName) -> Result<(), NoMemory>
         ensures ok { OnOk result (self.new ≡ with_writes self.old (after_dir self.old.writes path.now)) }
-        ensures others { self.new ≡ with_writes self.old self.new.writes }
-        ensures went { WentOn (way_to path.now) self.old.writes self.new.writes }
+        ensures err { OnErr result (self.new ≡ self.old) }
     {
         edits::dir(alloc, &mut self.files, path)
     }
@@ -143,34 +150,26 @@ impl MemoryWorld {
 
 impl Disk<ToyLaw> for MemoryWorld {
     ghost use Rattle.std.specs.Prelude.{⊤};
-    ghost use Rattle.memory_world.specs.Log.{no_link, Tells};
-    ghost use Rattle.memory_world.specs.Memory.{stands};
+    ghost use Rattle.memory_world.specs.Log.{no_link};
+    ghost use Rattle.memory_world.specs.Memory.{view_of};
 
-    ghost at = { stands };
+    ghost view = { view_of };
 
-    ghost told = { λ w. ⊤ };
-
-    ghost tells = { λ w m. Tells w.writes m };
-
-    ghost faults = { λ w. w.faults };
-
-    ghost orders = { λ w. w.begun };
-
-    ghost begins = { λ w. w.begins };
+    ghost gave = { λ p most b. ⊤ };
 
     ghost leads_to_no_link = { λ w p text t. no_link w.writes p text };
 
     ghost tells_infos = { λ w m t. tt };
 
     // Where the list has the next number a fault is answered, and else what stands, or want of memory.
-    #[tactic(auto, using(crate::proofs::Worlds::keeps_writes))]
+    #[tactic(auto, using(crate::proofs::Worlds::stayed_writes))]
     fn stat(&mut self, alloc: Global, path: &PathName, form: Form) -> Result<Info, DiskError>
         ensures step { self.new ≡ after_call self.old }
         ensures fails { (result ≡ Err DiskError.Fault) ↔ IsTrue (fails_next self.old) }
         ensures info { IfOk result (λ i. i ≡ stands self.old path.now form) }
-        ensures keeps { Kept self.old self.new }
+        ensures stayed { Stayed (view_of self.old) (view_of self.new) }
         ensures here { IsErrOf result DiskError.NotDirectory → ⊥ }
-        ensures cause { HasCause self.old.faults self.new.faults result }
+        ensures cause { HasCause (view_of self.old) (view_of self.new) result }
     {
         count_call(&mut self.calls, &self.failing, &mut self.faults)?;
         let info = self.files.info(alloc, path.text(), form)?;
@@ -178,16 +177,17 @@ impl Disk<ToyLaw> for MemoryWorld {
     }
 
     // Where the list has the next number a fault is answered, and else the bytes that stand, or want of memory.
-    #[tactic(auto, using(crate::proofs::Worlds::keeps_writes))]
+    #[tactic(auto, using(crate::proofs::Worlds::stayed_writes))]
     fn read(&mut self, alloc: Global, path: &PathName, most: u64) -> Result<FileBytes, DiskError>
         ensures step { self.new ≡ after_call self.old }
         ensures fails { (result ≡ Err DiskError.Fault) ↔ IsTrue (fails_next self.old) }
         ensures text { IfOk result (λ b. b ≡ bytes_of most (standing self.old.writes path.now Form.Follow)) }
         ensures info { IfOk result (FitsInfo (stands self.old path.now Form.Follow)) }
-        ensures bytes { (m : Items Known) → Tells self.new.writes m → IfOk result (λ b. b ≡ bytes_of most (content m path.now (stands self.old path.now Form.Follow))) }
-        ensures keeps { Kept self.old self.new }
+        ensures bytes { (m : Items Known) → Tells self.new.writes m
+            → IfOk result (λ b. b ≡ bytes_of most (content m path.now (stands self.old path.now Form.Follow))) }
+        ensures stayed { Stayed (view_of self.old) (view_of self.new) }
         ensures here { IsErrOf result DiskError.NotDirectory → ⊥ }
-        ensures cause { HasCause self.old.faults self.new.faults result }
+        ensures cause { HasCause (view_of self.old) (view_of self.new) result }
     {
         count_call(&mut self.calls, &self.failing, &mut self.faults)?;
         let bytes = self.files.read(alloc, path.text(), most)?;
@@ -196,9 +196,9 @@ impl Disk<ToyLaw> for MemoryWorld {
 }
 
 impl World<ToyLaw> for MemoryWorld {
-    ghost use Rattle.std.specs.Prelude.{⊤};
+    ghost use Rattle.memory_world.specs.Exits.{IsToyExit};
 
-    ghost ended = { λ o e. ⊤ };
+    ghost ended = { IsToyExit };
 
     // Where the list has the next number a fault is answered, and else the order is begun, if there is memory.
     #[tactic(auto, using(crate::proofs::Worlds::keeps_writes))]
@@ -210,7 +210,7 @@ impl World<ToyLaw> for MemoryWorld {
         ensures same { SameBut self.new.begun (stands self.old) (stands self.new) }
         ensures directories { KeepsDirectories (stands self.old) (stands self.new) }
         ensures here { IsErrOf result DiskError.NotDirectory → ⊥ }
-        ensures cause { HasCause self.old.faults self.new.faults result }
+        ensures cause { HasCause (view_of self.old) (view_of self.new) result }
     {
         count_call(&mut self.calls, &self.failing, &mut self.faults)?;
         match self.begun.push_back(order) {
@@ -233,6 +233,7 @@ impl World<ToyLaw> for MemoryWorld {
         ensures oldest { IfOk result (λ e. self.old.begun ≡ e.order ∷ self.new.begun) }
         ensures step { IfOk result (λ e. self.new ≡ with_left (after_call self.old) (performed self.old.writes e.order) self.new.begun) }
         ensures exit { IfOk result (λ e. e.exit ≡ exit_of self.old.writes e.order) }
+        ensures ended { IfOk result (λ e. IsToyExit (view_of self.old) e.order e.exit) }
         ensures left { OnErr result (self.new ≡ with_left (after_call self.old) self.new.writes []) }
         ensures fails { (result ≡ Err DiskError.Fault) ↔ IsTrue (fails_next self.old) }
         ensures spared { IsErrOf result DiskError.Fault → self.new.writes ≡ self.old.writes }
@@ -242,11 +243,13 @@ impl World<ToyLaw> for MemoryWorld {
         ensures directories { KeepsDirectories (stands self.old) (stands self.new) }
 
         // A command that succeeded on inputs that still stand did what the law says.
-        ensures does { (m : Items Known) → Tells self.new.writes m → IfOk result (λ e. e.exit ≡ Code 0 → IsFormed e.order → Unchanged (stands self.new) e.order
+        ensures does { (m : Items Known) → Tells self.new.writes m → IfOk result (λ e. e.exit ≡ Code 0
+            → IsFormed e.order → Unchanged (stands self.new) e.order
             → (w : Items (Items ℕ)) → IsFound m (stands self.new) e.order.deps w
-            → ToyDoes e.order.signature (read_contents m e.order.reads) (found_contents m (stands self.new) e.order w) (contents_at m (stands self.new) e.order)) }
+            → ToyDoes e.order.signature (read_contents m e.order.reads) (found_contents m (stands self.new) e.order w)
+            (contents_at m (stands self.new) e.order)) }
         ensures here { IsErrOf result DiskError.NotDirectory → ⊥ }
-        ensures cause { HasCause self.old.faults self.new.faults result }
+        ensures cause { HasCause (view_of self.old) (view_of self.new) result }
     {
         if let Err(error) = count_call(&mut self.calls, &self.failing, &mut self.faults) {
             self.begun.clear();

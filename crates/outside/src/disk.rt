@@ -7,7 +7,8 @@ ghost use Rattle.file_info.specs.declared.info.Form.{Form};
 ghost use Rattle.file_info.specs.declared.info.Form.TheVariants.{Follow};
 ghost use Rattle.outside.specs.declared.order.Order.{Order};
 ghost use Rattle.outside.specs.declared.disk.DiskError.TheVariants.{NotDirectory};
-ghost use Rattle.outside.specs.Telling.{Keeps, HasCause};
+ghost use Rattle.outside.specs.declared.disk.FileBytes.{FileBytes};
+ghost use Rattle.outside.specs.Telling.{DiskView, Told, Tells, Stayed, HasCause};
 ghost use Rattle.outside.specs.Reading.{FitsInfo, bytes_of};
 
 use crate::law::Law;
@@ -59,48 +60,34 @@ pub enum FileBytes {
 /// A disk. Its meaning is what stands at each path, told or not: a disk of which nothing is told meets every clause
 /// below that begins with telling. Its orders and their count belong to a `World`; no call of a disk changes them.
 pub trait Disk<L: Law> {
-    /// What stands at a path in this form, where it is told.
-    ghost at: { Self → Items ℕ → Form → Info };
+    /// What is seen of it between two calls.
+    ghost view: { Self → DiskView };
 
-    /// Whether what stands is told.
-    ghost told: { Self → Type 0 };
-
-    /// Whether every content that the disk has held is the one that this map gives.
-    ghost tells: { Self → Items Known → Type 0 };
-
-    /// How often the disk has failed. It never falls, and stands still at the greatest `u64`.
-    ghost faults: { Self → ℕ };
-
-    /// The orders that are begun and have not ended.
-    ghost orders: { Self → Items Order };
-
-    /// How many orders were begun since the disk was made. It stands still at the greatest `u64`.
-    ghost begins: { Self → ℕ };
+    /// What was answered of the file at a path, where at most so many bytes were wanted. It is one relation for all disks of
+    /// the type, and generic code can know it from `read` alone. So it ties what is said of a manifest to bytes that the disk
+    /// answered, also where nothing is told.
+    ghost gave: { Items ℕ → ℕ → FileBytes → Type 0 };
 
     /// What stands at a path.
     fn stat(&mut self, alloc: Global, path: &PathName, form: Form) -> Result<Info, DiskError>
-        ensures keeps { Keeps told tells self.old self.new }
-        ensures same { told self.new → at self.new ≡ at self.old }
-        ensures info { told self.new → IfOk result (λ i. i ≡ at self.old path.now form) }
-        ensures orders { orders self.new ≡ orders self.old }
-        ensures begins { begins self.new ≡ begins self.old }
+        ensures stayed { Stayed (view self.old) (view self.new) }
+        ensures info { Told (view self.new) → IfOk result (λ i. i ≡ (view self.old).at path.now form) }
         ensures here { IsErrOf result NotDirectory → ⊥ }
-        ensures cause { HasCause (faults self.old) (faults self.new) result };
+        ensures cause { HasCause (view self.old) (view self.new) result };
 
     /// The bytes of the file that the path leads to, where there are at most `most` of them.
     fn read(&mut self, alloc: Global, path: &PathName, most: u64) -> Result<FileBytes, DiskError>
-        ensures keeps { Keeps told tells self.old self.new }
-        ensures same { told self.new → at self.new ≡ at self.old }
-        ensures info { told self.new → IfOk result (FitsInfo (at self.old path.now Follow)) }
-        ensures bytes { (m : Items Known) → tells self.new m → IfOk result (λ b. b ≡ bytes_of most (content m path.now (at self.old path.now Follow))) }
-        ensures orders { orders self.new ≡ orders self.old }
-        ensures begins { begins self.new ≡ begins self.old }
+        ensures stayed { Stayed (view self.old) (view self.new) }
+        ensures info { Told (view self.new) → IfOk result (FitsInfo ((view self.old).at path.now Follow)) }
+        ensures bytes { (m : Items Known) → Tells (view self.new) m
+            → IfOk result (λ b. b ≡ bytes_of most (content m path.now ((view self.old).at path.now Follow))) }
+        ensures gave { IfOk result (gave path.now most) }
         ensures here { IsErrOf result NotDirectory → ⊥ }
-        ensures cause { HasCause (faults self.old) (faults self.new) result };
+        ensures cause { HasCause (view self.old) (view self.new) result };
 
     /// A link that is followed leads to something that is no link.
-    ghost leads_to_no_link: { (d : Self) (p : Items ℕ) (text : Items ℕ) → told d → at d p Follow ≡ infos.Link text → ⊥ };
+    ghost leads_to_no_link: { (d : Self) (p : Items ℕ) (text : Items ℕ) → Told (view d) → (view d).at p Follow ≡ infos.Link text → ⊥ };
 
     /// A disk that tells contents tells what stands.
-    ghost tells_infos: { (d : Self) (m : Items Known) → tells d m → told d };
+    ghost tells_infos: { (d : Self) (m : Items Known) → Tells (view d) m → Told (view d) };
 }

@@ -1,5 +1,6 @@
 //! Standard output and standard error.
-ghost use Rattle.std.specs.Prelude.{◌≡◌, ℕ, ◌+◌, ◌<◌, ◌≤◌, length, IfOk, OnErr};
+ghost use Rattle.std.specs.Prelude.{◌≡◌, ℕ, ◌+◌, ◌<◌, ◌≤◌, length, IfOk, OnOk, OnErr};
+ghost use Rattle.outside.specs.Telling.{next_count};
 
 use outside::sink::{Sink, SinkFault};
 use std::io::Write;
@@ -24,14 +25,17 @@ impl<W: Write + Drop> StdSink<W> {
 }
 
 impl<W: Write + Drop> Sink for StdSink<W> {
-    ghost use Rattle.std.specs.Prelude.{None};
-    ghost use Rattle.real_world.specs.Shown.{sink_faults};
+    ghost use Rattle.real_world.specs.Shown.{sink_faults, sink_view};
 
-    ghost bytes = { λ s. None };
+    ghost view = { sink_view };
 
-    ghost faults = { λ s. sink_faults s };
-
-    fn put(&mut self, piece: &[u8]) -> Result<usize, SinkFault> {
+    fn put(&mut self, piece: &[u8]) -> Result<usize, SinkFault>
+        ensures within { IfOk result (λ n. n ≤ length piece.now) }
+        ensures some { IfOk result (λ n. 0 < length piece.now → 0 < n) }
+        ensures ok { OnOk result (sink_faults self.new ≡ sink_faults self.old) }
+        ensures err { OnErr result (sink_faults self.new ≡ next_count (sink_faults self.old)) }
+        ensures later { sink_faults self.old ≤ sink_faults self.new }
+    {
         if piece.is_empty() {
             return Ok(0);
         }

@@ -1,6 +1,6 @@
 //! The world of real files and programs. It is the trusted edge: it tells nothing of what files hold.
-ghost use Rattle.std.specs.Prelude.{◌≡◌, ℕ, ◌+◌, ◌<◌, ◌≤◌, [], ◌∷◌, ◌++◌, length, IsErrOf};
-ghost use Rattle.outside.specs.Telling.{HasCause};
+ghost use Rattle.std.specs.Prelude.{◌≡◌, ℕ, ◌+◌, ◌<◌, ◌≤◌, [], ◌∷◌, ◌++◌, length, IfOk, OnOk, OnErr, IsErrOf};
+ghost use Rattle.real_world.specs.Counting.{count_after};
 
 use crate::files::{bytes_of, disk_error, info_of};
 use crate::programs::Programs;
@@ -22,7 +22,7 @@ use std::rt::{Env, Files};
 #[derive(Drop)]
 pub struct RealDisk<R: Files + AllocGlobal + Drop> {
     rt: R,
-    faults: u64,
+    pub(crate) faults: u64,
 }
 
 /// The files, and the programs that run on them. An order that is begun waits; `end` runs the oldest. A program that cannot be
@@ -36,17 +36,21 @@ pub struct RealWorld<R: Files + Env + AllocGlobal + Processes + Drop> {
     programs: Programs,
 }
 
-// The answer of a call, where a failure raises the count.
+// The answer of a call. A fault raises the count, and want of memory does not.
 fn answer<T: Drop>(faults: &mut u64, outcome: io::Result<T>) -> Result<T, DiskError>
-    ensures cause { HasCause faults.old faults.new result }
+    ensures faults { faults.new ≡ count_after result faults.old }
+    ensures later { faults.old ≤ faults.new }
     ensures here { IsErrOf result DiskError.NotDirectory → ⊥ }
 {
     match outcome {
         Ok(value) => Ok(value),
         Err(error) => {
-            let before = *faults;
-            *faults = before.saturating_add(1);
-            Err(disk_error(&error))
+            let why = disk_error(&error);
+            if why == DiskError::Fault {
+                let before = *faults;
+                *faults = before.saturating_add(1);
+            }
+            Err(why)
         }
     }
 }
@@ -83,63 +87,68 @@ impl<R: Files + Env + AllocGlobal + Processes + Drop> RealWorld<R> {
 }
 
 impl<L: Law, R: Files + AllocGlobal + Drop> Disk<L> for RealDisk<R> {
-    ghost use Rattle.std.specs.Prelude.{[]};
-    ghost use Rattle.real_world.specs.Shown.{disk_faults};
-    ghost use Rattle.file_info.specs.declared.info.Info.TheVariants.{Missing};
+    ghost use Rattle.std.specs.Prelude.{⊤};
+    ghost use Rattle.real_world.specs.Shown.{disk_faults, disk_view};
+    ghost use Rattle.outside.specs.Telling.{Stayed, HasCause};
 
-    ghost at = { λ d p f. Missing };
+    ghost view = { disk_view };
 
-    ghost told = { λ d. ⊥ };
-
-    ghost tells = { λ d m. ⊥ };
-
-    ghost faults = { λ d. disk_faults d };
-
-    ghost orders = { λ d. [] };
-
-    ghost begins = { λ d. 0 };
+    ghost gave = { λ p most b. ⊤ };
 
     ghost leads_to_no_link = { λ d p text t e. t };
 
     ghost tells_infos = { λ d m t. t };
 
-    fn stat(&mut self, _alloc: Global, path: &PathName, form: Form) -> Result<Info, DiskError> {
+    fn stat(&mut self, _alloc: Global, path: &PathName, form: Form) -> Result<Info, DiskError>
+        ensures stayed { Stayed (disk_view self.old) (disk_view self.new) }
+        ensures faults { disk_faults self.new ≡ count_after result (disk_faults self.old) }
+        ensures here { IsErrOf result DiskError.NotDirectory → ⊥ }
+        ensures cause { HasCause (disk_view self.old) (disk_view self.new) result }
+    {
         let outcome = info_of(&self.rt, path, form);
         answer(&mut self.faults, outcome)
     }
 
-    fn read(&mut self, _alloc: Global, path: &PathName, most: u64) -> Result<FileBytes, DiskError> {
+    fn read(&mut self, _alloc: Global, path: &PathName, most: u64) -> Result<FileBytes, DiskError>
+        ensures stayed { Stayed (disk_view self.old) (disk_view self.new) }
+        ensures faults { disk_faults self.new ≡ count_after result (disk_faults self.old) }
+        ensures here { IsErrOf result DiskError.NotDirectory → ⊥ }
+        ensures cause { HasCause (disk_view self.old) (disk_view self.new) result }
+    {
         let outcome = bytes_of(&self.rt, path, most);
         answer(&mut self.faults, outcome)
     }
 }
 
 impl<L: Law, R: Files + Env + AllocGlobal + Processes + Drop> Disk<L> for RealWorld<R> {
-    ghost use Rattle.real_world.specs.Shown.{world_faults, waiting_orders, begun_orders};
-    ghost use Rattle.file_info.specs.declared.info.Info.TheVariants.{Missing};
+    ghost use Rattle.std.specs.Prelude.{⊤};
+    ghost use Rattle.real_world.specs.Shown.{world_faults, world_view};
+    ghost use Rattle.outside.specs.Telling.{Stayed, HasCause};
 
-    ghost at = { λ w p f. Missing };
+    ghost view = { world_view };
 
-    ghost told = { λ w. ⊥ };
-
-    ghost tells = { λ w m. ⊥ };
-
-    ghost faults = { λ w. world_faults w };
-
-    ghost orders = { λ w. waiting_orders w };
-
-    ghost begins = { λ w. begun_orders w };
+    ghost gave = { λ p most b. ⊤ };
 
     ghost leads_to_no_link = { λ w p text t e. t };
 
     ghost tells_infos = { λ w m t. t };
 
-    fn stat(&mut self, _alloc: Global, path: &PathName, form: Form) -> Result<Info, DiskError> {
+    fn stat(&mut self, _alloc: Global, path: &PathName, form: Form) -> Result<Info, DiskError>
+        ensures stayed { Stayed (world_view self.old) (world_view self.new) }
+        ensures faults { world_faults self.new ≡ count_after result (world_faults self.old) }
+        ensures here { IsErrOf result DiskError.NotDirectory → ⊥ }
+        ensures cause { HasCause (world_view self.old) (world_view self.new) result }
+    {
         let outcome = info_of(&self.rt, path, form);
         answer(&mut self.faults, outcome)
     }
 
-    fn read(&mut self, _alloc: Global, path: &PathName, most: u64) -> Result<FileBytes, DiskError> {
+    fn read(&mut self, _alloc: Global, path: &PathName, most: u64) -> Result<FileBytes, DiskError>
+        ensures stayed { Stayed (world_view self.old) (world_view self.new) }
+        ensures faults { world_faults self.new ≡ count_after result (world_faults self.old) }
+        ensures here { IsErrOf result DiskError.NotDirectory → ⊥ }
+        ensures cause { HasCause (world_view self.old) (world_view self.new) result }
+    {
         let outcome = bytes_of(&self.rt, path, most);
         answer(&mut self.faults, outcome)
     }
@@ -147,10 +156,20 @@ impl<L: Law, R: Files + Env + AllocGlobal + Processes + Drop> Disk<L> for RealWo
 
 impl<L: Law, R: Files + Env + AllocGlobal + Processes + Drop> World<L> for RealWorld<R> {
     ghost use Rattle.std.specs.Prelude.{⊤};
+    ghost use Rattle.outside.specs.Telling.{HasCause, next_count};
+    ghost use Rattle.real_world.specs.Shown.{world_faults, waiting_orders, begun_orders, world_view};
 
-    ghost ended = { λ order exit. ⊤ };
+    ghost ended = { λ v order exit. ⊤ };
 
-    fn begin(&mut self, _alloc: Global, order: Order) -> Result<(), DiskError> {
+    fn begin(&mut self, _alloc: Global, order: Order) -> Result<(), DiskError>
+        ensures ok { OnOk result (waiting_orders self.new ≡ waiting_orders self.old ++ order ∷ []) }
+        ensures err { OnErr result (waiting_orders self.new ≡ waiting_orders self.old) }
+        ensures counted { OnOk result (begun_orders self.new ≡ next_count (begun_orders self.old)) }
+        ensures uncounted { OnErr result (begun_orders self.new ≡ begun_orders self.old) }
+        ensures faults { world_faults self.new ≡ count_after result (world_faults self.old) }
+        ensures here { IsErrOf result DiskError.NotDirectory → ⊥ }
+        ensures cause { HasCause (world_view self.old) (world_view self.new) result }
+    {
         match self.waiting.push_back(order) {
             Ok(()) => {
                 let before = self.begins;
@@ -165,7 +184,15 @@ impl<L: Law, R: Files + Env + AllocGlobal + Processes + Drop> World<L> for RealW
         self.waiting.len()
     }
 
-    fn end(&mut self, alloc: Global) -> Result<Ended, DiskError> {
+    fn end(&mut self, alloc: Global) -> Result<Ended, DiskError>
+        requires { 0 < length (waiting_orders self.old) }
+        ensures oldest { IfOk result (λ e. waiting_orders self.old ≡ e.order ∷ waiting_orders self.new) }
+        ensures err { OnErr result (waiting_orders self.new ≡ []) }
+        ensures begins { begun_orders self.new ≡ begun_orders self.old }
+        ensures faults { world_faults self.new ≡ count_after result (world_faults self.old) }
+        ensures here { IsErrOf result DiskError.NotDirectory → ⊥ }
+        ensures cause { HasCause (world_view self.old) (world_view self.new) result }
+    {
         let Some(order) = self.waiting.pop_front() else {
             unreachable!()
         };

@@ -193,7 +193,8 @@ fn push_program(out: &mut Vec<u8>, command: &Command) -> Result<(), AllocError>
     }
 }
 
-/// The signature of a shell command: equal texts mean commands that do the same. It fails for want of memory alone.
+/// The signature of a shell command. Equal texts of fewer than 2^32 bytes mean commands that do the same. It fails for want of
+/// memory alone.
 pub fn signature(alloc: Global, command: &Command) -> Result<Bytes, NoMemory>
     ensures { command.now.tool ≡ tools.Shell → IfOk result (λ text. text ≡ signature_of (meaning_of command.now)) }
 {

@@ -2,9 +2,10 @@ use Rattle.std.proofs.Common.{◌≡◌, ◌≤◌, ◌+◌, [], take, length}
 use Rattle.outside.specs.Telling.{Grew}
 use Rattle.llbuild_cli.specs.Asked.{AllReadFirst}
 use Rattle.llbuild_cli.specs.Built.{IsWritten}
-use Rattle.llbuild_cli.specs.Heard.{HeardWell, AreOrders, AllDone, heard_names}
+use Rattle.llbuild_cli.specs.Heard.{AreOrders, AllDone, HeardWell, heard_names}
+use Rattle.llbuild_cli.specs.Journal.{Knows, IsOnce}
 use Rattle.llbuild_cli.specs.Moved.{Moved}
-use Rattle.llbuild_cli.specs.Shows.{Shows}
+use Rattle.llbuild_cli.specs.Sources.{AreSources}
 use Rattle.llbuild_cli.specs.Stands.{Stands}
 use Rattle.llbuild_cli.specs.Started.{starts_of}
 use Rattle.llbuild_cli.specs.Texts.{lines_of}
@@ -13,16 +14,18 @@ use Rattle.llbuild_cli.proofs.build.run_all.Given as goal
 
 abbrev pub invariant-commands : goal.invariant-commands
 invariant-commands g l = record {
-  stands : Stands g.W.Disk.at g.W.Disk.tells g.L.Law.does l.manifest.commands l.marks l.place l.world l.seen;
+  stands : Stands g.L.Law.does l.manifest.commands l.marks l.place (g.W.Disk.view l.world) l.seen;
   starts : l.seen.starts ≡ starts_of (take l.place l.manifest.commands) l.marks;
-  wrote : Grew (g.O.Sink.bytes l.fn.out) (g.O.Sink.bytes l.out) (lines_of l.seen.starts);
+  wrote : Grew (g.O.Sink.view l.fn.out) (g.O.Sink.view l.out) (lines_of l.seen.starts);
   done : AllDone l.seen.heard;
   names : heard_names l.seen.heard ≡ start_names l.seen.starts;
   orders : AreOrders l.manifest.commands l.seen.heard;
-  read : AllReadFirst l.manifest.commands (Shows l.seen.stats l.seen.heard) l.seen.starts l.seen.heard;
-  heard : HeardWell g.W.Disk.tells g.W.World.ended g.L.Law.does l.world l.seen.heard;
-  moved : Moved g.W.Disk.told g.W.Disk.tells g.W.Disk.at g.W.Disk.faults (IsWritten l.manifest.commands l.seen.starts) l.fn.world l.world;
-  none : g.W.Disk.orders l.world ≡ [];
-  begins : g.W.Disk.begins l.world ≤ g.W.Disk.begins l.fn.world + length l.seen.starts;
-  later : g.O.Sink.faults l.fn.out ≤ g.O.Sink.faults l.out;
+  read : AllReadFirst l.manifest.commands (Knows l.seen) l.seen.starts l.seen.heard;
+  heard : HeardWell g.W.World.ended g.L.Law.does (g.W.Disk.view l.world) l.seen.heard;
+  moved : Moved (IsWritten l.manifest.commands l.seen.starts) (g.W.Disk.view l.fn.world) (g.W.Disk.view l.world);
+  none : (g.W.Disk.view l.world).orders ≡ [];
+  begins : (g.W.Disk.view l.world).begins ≤ (g.W.Disk.view l.fn.world).begins + length l.seen.starts;
+  later : (g.O.Sink.view l.fn.out).faults ≤ (g.O.Sink.view l.out).faults;
+  once : IsOnce l.seen;
+  sources : AreSources (record { manifest = l.manifest; target = l.target }) l.seen.stats;
 }

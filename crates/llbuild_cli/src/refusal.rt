@@ -1,0 +1,84 @@
+//! Why nothing is built.
+use crate::report::End;
+use crate::words::UsageFault;
+use file_info::list::Bytes;
+use file_info::memory::NoMemory;
+use file_info::path::PathName;
+use manifest_reader::error::LoadError;
+use outside::disk::DiskError;
+use outside::world::NoFault;
+
+/// Why words and manifest give no build.
+#[derive(Drop)]
+pub enum Refusal {
+    /// The words are no command line.
+    Usage(UsageFault),
+    /// The manifest is missing or no file.
+    NoFile { path: PathName },
+    /// The manifest is refused.
+    Manifest(LoadError),
+    /// The manifest has no target of this name.
+    UnknownTarget { name: Bytes },
+    /// The disk failed.
+    DiskFault,
+    /// No memory was left.
+    NoMemory,
+}
+
+impl From<NoMemory> for Refusal {
+    ghost use Rattle.std.specs.Prelude.{◌≡◌};
+    ghost use Rattle.llbuild_cli.specs.declared.refusal.Refusal.TheVariants as refusals;
+
+    ghost from_gives = { λ _ refusal. refusal ≡ refusals.NoMemory };
+
+    fn from(_error: NoMemory) -> Refusal {
+        Refusal::NoMemory
+    }
+}
+
+impl From<DiskError> for Refusal {
+    ghost use Rattle.std.specs.Prelude.{◌≡◌};
+    ghost use Rattle.llbuild_cli.specs.Opened.{disk_refusal};
+
+    ghost from_gives = { λ error refusal. refusal ≡ disk_refusal error };
+
+    // The read of a file never answers `NotDirectory`.
+    fn from(error: DiskError) -> Refusal {
+        match error {
+            DiskError::NoMemory => Refusal::NoMemory,
+            DiskError::Fault | DiskError::NotDirectory => Refusal::DiskFault,
+        }
+    }
+}
+
+impl From<LoadError> for Refusal {
+    ghost use Rattle.std.specs.Prelude.{◌≡◌};
+    ghost use Rattle.llbuild_cli.specs.Opened.{load_refusal};
+
+    ghost from_gives = { λ error refusal. refusal ≡ load_refusal error };
+
+    fn from(error: LoadError) -> Refusal {
+        match error {
+            LoadError::NoMemory => Refusal::NoMemory,
+            error => Refusal::Manifest(error),
+        }
+    }
+}
+
+impl From<Refusal> for End<NoFault> {
+    ghost use Rattle.std.specs.Prelude.{◌≡◌};
+    ghost use Rattle.llbuild_cli.specs.Plan.{refused_end};
+
+    ghost from_gives = { λ refusal end. end ≡ refused_end refusal };
+
+    fn from(refusal: Refusal) -> End<NoFault> {
+        match refusal {
+            Refusal::Usage(fault) => End::Usage(fault),
+            Refusal::NoFile { path } => End::NoFile { path },
+            Refusal::Manifest(error) => End::Manifest(error),
+            Refusal::UnknownTarget { name } => End::UnknownTarget { name },
+            Refusal::DiskFault => End::DiskFault,
+            Refusal::NoMemory => End::NoMemory,
+        }
+    }
+}

@@ -1,0 +1,5 @@
+use Rattle.memory_world.proofs.Exits.{exit-told}
+use Rattle.memory_world.proofs.laws.told_exits_agree.Goals as goal
+
+pub returns : goal.returns
+returns c = exit-told
