@@ -1,5 +1,5 @@
-pub mod Ins
-pub mod Single
-pub mod Orderly
-pub mod Makers
-pub mod Marks
+pub mod PlaceLemmas
+pub mod FreshLemmas
+pub mod OrderlyLemmas
+pub mod MakerLemmas
+pub mod MarkLemmas

@@ -1,11 +1,11 @@
 -- The content that a manifest and the sources give a path, by recursion over the manifest.
 use Rattle.std.specs.Prelude.{◌≡◌, ℕ, List, [], map, slice_get, Some}
-use Rattle.file_info.specs.Content.{Content, ReadContent, One, Known, content, Absent}
+use Rattle.file_info.specs.Content.{Content, ReadContent, One, FileVersion, content, Absent}
 use Rattle.file_info.specs.Lists.{In}
 use Rattle.file_info.specs.declared.info.Info.{Info}
 use Rattle.file_info.specs.declared.node.NodeName.{NodeName}
 use Rattle.file_info.specs.declared.node.NodeName.TheVariants.{Path}
-use Rattle.outside.specs.Formed.{paths_of}
+use Rattle.outside.specs.OrderForm.{paths_of}
 use Rattle.outside.specs.Meaning.{signature_of}
 use Rattle.manifest_reader.specs.declared.command.Command.{Command}
 use Rattle.manifest_reader.specs.declared.command.Input.{Input}
@@ -36,7 +36,7 @@ as_read files = map (λ (f : List ℕ × Content). (Path f.0, One f.1)) files
 -- the content of a path: of a source what the build saw there; of an output what the law gives its maker, whose inputs are
 -- all there and have their own contents by the same rule. (File nodes and shell commands; each further kind of node or
 -- tool is a further rule.)
-pub data Fresh (does : Does) (m : List Known) (commands : List Command) (seen : Sights) : List ℕ → Content → Type 0 where
+pub data Fresh (does : Does) (m : List FileVersion) (commands : List Command) (seen : Sights) : List ℕ → Content → Type 0 where
   source : {p : List ℕ} {x : Content} (i : Info) → (IsMade commands p → ⊥) → In (p, i) seen → x ≡ content m p i → Fresh does m commands seen p x
   made : {p : List ℕ} {x : Content} (c : Command) (d : List (List ℕ × Content)) (o : List Content) (k : ℕ) → In c commands
       → nodes_read c.inputs ≡ map (λ (f : List ℕ × Content). Path f.0) d

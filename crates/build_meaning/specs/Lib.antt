@@ -1,6 +1,6 @@
 pub mod Commands
 pub mod Fresh
-pub mod Needed
+pub mod Need
 pub mod Unique
 pub mod Orderly
 pub mod Marks

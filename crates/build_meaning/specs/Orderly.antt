@@ -2,7 +2,7 @@
 use Rattle.std.specs.Prelude.{◌≡◌, ℕ, List, slice_get, drop, map, Some}
 use Rattle.file_info.specs.Content.{node_text}
 use Rattle.file_info.specs.Lists.{In, IsDistinct}
-use Rattle.outside.specs.Formed.{paths_of}
+use Rattle.outside.specs.OrderForm.{paths_of}
 use Rattle.manifest_reader.specs.declared.command.Command.{Command}
 use Rattle.manifest_reader.specs.declared.command.Input.{Input}
 use Rattle.build_meaning.specs.Fresh.{IsMade}

@@ -3,8 +3,8 @@ use Rattle.std.specs.Prelude.{◌≡◌, ◌↔◌, ℕ, List, map, Some, Ok}
 use Rattle.file_info.specs.Content.{Content, Absent, node_text}
 use Rattle.file_info.specs.Lists.{In}
 use Rattle.file_info.specs.declared.info.Form.TheVariants.{Follow}
-use Rattle.outside.specs.Reading.{bytes_of}
-use Rattle.outside.specs.Telling.{SinkView}
+use Rattle.outside.specs.FileRead.{bytes_of}
+use Rattle.outside.specs.View.{SinkView}
 use Rattle.memory_world.specs.declared.write.Write.{Write}
 use Rattle.memory_world.specs.Log.{standing, last_of, info_of}
 use Rattle.memory_world.specs.Memory.{map_of}
@@ -14,7 +14,7 @@ use Rattle.manifest_reader.specs.declared.command.Input.{Input}
 use Rattle.build_meaning.specs.Fresh.{Sights, Fresh}
 use Rattle.llbuild_cli.specs.declared.words.Job.{Job}
 use Rattle.llbuild_cli.specs.Plan.{Plan, plan_of, manifest_max}
-use Rattle.llbuild_cli.specs.Words.{job_of}
+use Rattle.llbuild_cli.specs.Job.{job_of}
 
 -- what is seen of a sink in memory
 abbrev pub seen_in : Written → SinkView

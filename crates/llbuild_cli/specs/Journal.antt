@@ -5,7 +5,7 @@ use Rattle.file_info.specs.declared.info.Info.{Info}
 use Rattle.llbuild_cli.specs.declared.report.Heard.{Heard}
 use Rattle.llbuild_cli.specs.declared.report.Start.{Start}
 use Rattle.llbuild_cli.specs.declared.report.StatSeen.{StatSeen}
-use Rattle.llbuild_cli.specs.Shows.{Shows, IsSingle, sources_of}
+use Rattle.llbuild_cli.specs.Sight.{Shows, IsSingle, sources_of}
 
 -- the lists of a report, as far as they have come
 pub record Journal : Type 0 where

@@ -1,9 +1,9 @@
 -- What the words of a run ask for, and what it finds.
 use Rattle.std.specs.Prelude.{◌≡◌, ℕ, List, Option, Some, None, Result, Ok, Err}
-use Rattle.file_info.specs.Content.{Known, content}
+use Rattle.file_info.specs.Content.{FileVersion, content}
 use Rattle.file_info.specs.declared.info.Form.TheVariants.{Follow}
-use Rattle.outside.specs.Telling.{DiskView, DiskFailed, Told, Tells}
-use Rattle.outside.specs.Reading.{FitsInfo, bytes_of}
+use Rattle.outside.specs.View.{DiskView, DiskFailed, Told, Tells}
+use Rattle.outside.specs.FileRead.{FitsInfo, bytes_of}
 use Rattle.outside.specs.declared.disk.FileBytes.{FileBytes}
 use Rattle.outside.specs.declared.disk.FileBytes.TheVariants.{Missing, NotFile, TooLong, Bytes}
 use Rattle.yaml_profile.specs.declared.error.YamlError.TheVariants as yaml
@@ -19,7 +19,7 @@ use Rattle.llbuild_cli.specs.declared.report.End.{End}
 use Rattle.llbuild_cli.specs.declared.report.End.TheVariants as ends
 use Rattle.llbuild_cli.specs.declared.words.Job.{Job}
 use Rattle.llbuild_cli.specs.declared.words.UsageFault.TheVariants.{Words}
-use Rattle.llbuild_cli.specs.Words.{job_of}
+use Rattle.llbuild_cli.specs.Job.{job_of}
 
 -- the most bytes that a manifest has
 abbrev pub manifest_max : ℕ
@@ -53,10 +53,10 @@ Gave = List ℕ → ℕ → FileBytes → Type 0
 pub record IsAnswer (gave : Gave) (old new : DiskView) (file : List ℕ) (answer : FileBytes) : Type 0 where
   pub given : gave file manifest_max answer
   pub fits : Told new → FitsInfo (old.at file Follow) answer
-  pub is : (m : List Known) → Tells new m → answer ≡ bytes_of manifest_max (content m file (old.at file Follow))
+  pub is : (m : List FileVersion) → Tells new m → answer ≡ bytes_of manifest_max (content m file (old.at file Follow))
 
 -- the words are a job, and its manifest's file was read
-pub record Asked (gave : Gave) (old new : DiskView) (words : List (List ℕ)) : Type 0 where
+pub record FileAnswer (gave : Gave) (old new : DiskView) (words : List (List ℕ)) : Type 0 where
   pub job : Job
   pub is : job_of words ≡ Some job
   pub answer : FileBytes
@@ -64,12 +64,12 @@ pub record Asked (gave : Gave) (old new : DiskView) (words : List (List ℕ)) : 
 
 -- this is the plan of the words
 pub record IsPlan (gave : Gave) (old new : DiskView) (words : List (List ℕ)) (plan : Plan) : Type 0 where
-  pub asked : Asked gave old new words
+  pub asked : FileAnswer gave old new words
   pub is : plan_of asked.job asked.answer ≡ Ok plan
 
 -- the words have no plan, and this is why
 pub record IsRefused (gave : Gave) (old new : DiskView) (words : List (List ℕ)) (refusal : Refusal) : Type 0 where
-  pub asked : Asked gave old new words
+  pub asked : FileAnswer gave old new words
   pub is : plan_of asked.job asked.answer ≡ Err refusal
 
 -- the words are those of a job

@@ -1,10 +1,10 @@
 //! The line of a start.
 ghost use Rattle.std.specs.Prelude.{◌≡◌, ◌≤◌, ◌+◌, ◌∷◌, [], ◌++◌, length, IfOk, IfErr, OnOk, OnErr};
-ghost use Rattle.outside.specs.Telling.{Grew};
-ghost use Rattle.llbuild_cli.specs.Started.{shown_of, start_of};
-ghost use Rattle.llbuild_cli.specs.Stops.{IsSinkStop};
-ghost use Rattle.llbuild_cli.specs.Texts.{line_of};
-ghost use Rattle.llbuild_cli.specs.Written.{GrewByPart};
+ghost use Rattle.outside.specs.View.{Grew};
+ghost use Rattle.llbuild_cli.specs.Start.{shown_of, start_of};
+ghost use Rattle.llbuild_cli.specs.Stop.{IsSinkStop};
+ghost use Rattle.llbuild_cli.specs.Text.{line_of};
+ghost use Rattle.llbuild_cli.specs.Growth.{GrewByPart};
 
 use crate::put_all::put_all;
 use crate::report::{Reason, Start};

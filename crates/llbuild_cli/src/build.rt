@@ -1,26 +1,26 @@
 //! A serial build: the commands of the target's reach, one after the other, in the order of the manifest.
 ghost use Rattle.std.specs.Prelude.{◌≡◌, ◌⊎◌, ℕ, ◌≤◌, ◌+◌, [], ◌++◌, List as Items, length, IfErr, OnOk};
-ghost use Rattle.file_info.specs.Content.{Known};
+ghost use Rattle.file_info.specs.Content.{FileVersion};
 ghost use Rattle.file_info.specs.Lists.{In};
-ghost use Rattle.outside.specs.Telling.{Grew, Stayed, Tells};
-ghost use Rattle.manifest_reader.specs.Served.{IsManifest, AreFileInputs};
-ghost use Rattle.build_meaning.specs.Needed.{AreMarks};
-ghost use Rattle.llbuild_cli.specs.Asked.{ReadFirst, AllReadFirst, StopsAtMissing};
-ghost use Rattle.llbuild_cli.specs.Built.{Announced, CameTo, DoneOne, IsRunStop, IsBuildStop, IsWrittenBy, IsWritten, IsFinishStop};
-ghost use Rattle.llbuild_cli.specs.Heard.{HeardWell, AreOrders, AllDone, AllEnded, AreInStep};
+ghost use Rattle.outside.specs.View.{Grew, Stayed, Tells};
+ghost use Rattle.manifest_reader.specs.FileManifest.{IsManifest, AreFileInputs};
+ghost use Rattle.build_meaning.specs.Need.{AreMarks};
+ghost use Rattle.llbuild_cli.specs.MissingInput.{ReadFirst, AllReadFirst, StopsAtMissing};
+ghost use Rattle.llbuild_cli.specs.BuildStop.{Announced, CameTo, DoneOne, IsRunStop, IsBuildStop, IsWrittenBy, IsWritten, IsFinishStop};
+ghost use Rattle.llbuild_cli.specs.Outcome.{HeardWell, AreOrders, AllDone, AllEnded, AreInStep};
 ghost use Rattle.llbuild_cli.specs.Journal.{Knows, IsUnknown, IsOnce, unused};
-ghost use Rattle.llbuild_cli.specs.Looked.{Looked, CameFrom};
-ghost use Rattle.llbuild_cli.specs.Moved.{Moved};
+ghost use Rattle.llbuild_cli.specs.Look.{Looked, CameFrom};
+ghost use Rattle.llbuild_cli.specs.Move.{Moved};
 ghost use Rattle.llbuild_cli.specs.Plan.{Plan};
-ghost use Rattle.llbuild_cli.specs.Printed.{WroteStopped};
-ghost use Rattle.llbuild_cli.specs.Ready.{IsInput, IsSound, IsOutput, SeenStands, Ran};
-ghost use Rattle.llbuild_cli.specs.Reading.{WereRead};
-ghost use Rattle.llbuild_cli.specs.Sources.{AreSources};
-ghost use Rattle.llbuild_cli.specs.Served.{Did, Run, run_of, report_of, answers_of};
+ghost use Rattle.llbuild_cli.specs.Output.{WroteStopped};
+ghost use Rattle.llbuild_cli.specs.CommandRun.{IsInput, IsSound, IsOutput, SeenStands, DidCommand};
+ghost use Rattle.llbuild_cli.specs.Input.{WereRead};
+ghost use Rattle.llbuild_cli.specs.Source.{AreSources};
+ghost use Rattle.llbuild_cli.specs.Run.{Did, Run, run_of, report_of, answers_of};
 ghost use Rattle.llbuild_cli.specs.Stands.{Stands};
-ghost use Rattle.llbuild_cli.specs.Started.{AreStarts, AllStarted, IsNextStart, start_of, starts_of};
-ghost use Rattle.llbuild_cli.specs.Stops.{AskedBefore, end_after};
-ghost use Rattle.llbuild_cli.specs.Texts.{lines_of, summary_text};
+ghost use Rattle.llbuild_cli.specs.Start.{AreStarts, AllStarted, IsNextStart, start_of, starts_of};
+ghost use Rattle.llbuild_cli.specs.Stop.{AskedBefore, end_after};
+ghost use Rattle.llbuild_cli.specs.Text.{lines_of, summary_text};
 
 use crate::announce::announce;
 use crate::execute::execute;
@@ -57,7 +57,7 @@ fn run_one<L: Law, W: World<L>, O: Sink>(
     ensures moved { Moved (IsWrittenBy command.now seen.new.starts) (W.view world.old) (W.view world.new) }
     ensures later { (O.view out.old).faults ≤ (O.view out.new).faults }
     ensures begins { (W.view world.new).begins + length seen.old.starts ≤ (W.view world.old).begins + length seen.new.starts }
-    ensures ran { OnOk result (Ran L.does command.now (W.view world.new) seen.old seen.new) }
+    ensures ran { OnOk result (DidCommand L.does command.now (W.view world.new) seen.old seen.new) }
     ensures announced { OnOk result (Announced command.now (O.view out.old) (O.view out.new) seen.old.starts seen.new.starts) }
     ensures done { OnOk result (DoneOne command.now seen.old.heard seen.new.heard) }
     ensures stood { SeenStands (W.view world.new) seen.new }

@@ -1,12 +1,12 @@
 //! One run of a command.
 ghost use Rattle.std.specs.Prelude.{◌≡◌, ◌≤◌, ◌+◌, [], List as Items, IfOk, IfErr};
-ghost use Rattle.file_info.specs.Content.{Known};
-ghost use Rattle.outside.specs.Formed.{AreReadsOf};
-ghost use Rattle.outside.specs.Telling.{Tells};
+ghost use Rattle.file_info.specs.Content.{FileVersion};
+ghost use Rattle.outside.specs.OrderForm.{AreReadsOf};
+ghost use Rattle.outside.specs.View.{Tells};
 ghost use Rattle.build_meaning.specs.Commands.{meaning_of};
-ghost use Rattle.llbuild_cli.specs.Moved.{Moved};
-ghost use Rattle.llbuild_cli.specs.Ready.{IsSound, IsOutput, IsOrderFor, IsEnded, ReadsStand, DidLaw};
-ghost use Rattle.llbuild_cli.specs.Stops.{IsDiskStop};
+ghost use Rattle.llbuild_cli.specs.Move.{Moved};
+ghost use Rattle.llbuild_cli.specs.CommandRun.{IsSound, IsOutput, IsOrderFor, IsEnded, ReadsStand, DidLaw};
+ghost use Rattle.llbuild_cli.specs.Stop.{IsDiskStop};
 
 use crate::stop::Stop;
 use file_info::list::List;
@@ -31,7 +31,7 @@ pub fn execute<L: Law, W: World<L>>(
     requires reads { AreReadsOf (meaning_of command.now).inputs reads }
     ensures order { IfOk result (λ e. IsOrderFor command.now ticket reads e.order) }
     ensures ended { IfOk result (IsEnded W.ended (W.view world.old) (W.view world.new)) }
-    ensures does { (m : Items Known) → Tells (W.view world.new) m → IfOk result (λ e. e.exit ≡ Exit.Code 0
+    ensures does { (m : Items FileVersion) → Tells (W.view world.new) m → IfOk result (λ e. e.exit ≡ Exit.Code 0
         → ReadsStand (W.view world.old).at reads → DidLaw L.does m (W.view world.new).at command.now reads) }
     ensures stop { IfErr result (IsDiskStop (W.view world.old).faults (W.view world.new).faults) }
     ensures moved { Moved (IsOutput command.now) (W.view world.old) (W.view world.new) }

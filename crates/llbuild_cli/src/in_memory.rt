@@ -2,13 +2,13 @@
 ghost use Rattle.std.specs.Prelude.{◌≡◌, ◌++◌, [], length, map, string_bytes, ⊤};
 ghost use Rattle.memory_world.specs.Log.{Tells};
 ghost use Rattle.memory_world.specs.Memory.{map_of, view_of};
-ghost use Rattle.memory_world.specs.Exits.{IsToyExit};
+ghost use Rattle.memory_world.specs.Exit.{IsToyExit};
 ghost use Rattle.memory_world.specs.Toy.{ToyDoes};
 ghost use Rattle.llbuild_cli.specs.InMemory.{FreshInMemory, seen_in};
-ghost use Rattle.llbuild_cli.specs.Served.{Served, answers_of, run_of};
+ghost use Rattle.llbuild_cli.specs.Run.{Served, answers_of, run_of};
 ghost use Rattle.llbuild_cli.specs.Status.{status_of};
-ghost use Rattle.llbuild_cli.specs.Texts.{failure_text, lines_of, summary_text};
-ghost use Rattle.llbuild_cli.specs.Written.{WroteUnlessFault};
+ghost use Rattle.llbuild_cli.specs.Text.{failure_text, lines_of, summary_text};
+ghost use Rattle.llbuild_cli.specs.Growth.{WroteUnlessFault};
 
 use crate::report::{End, Finish};
 use crate::run::run_alone;

@@ -1,12 +1,12 @@
 //! What stands at the inputs of a command.
 ghost use Rattle.std.specs.Prelude.{◌≡◌, ◌∷◌, [], IfOk, IfErr};
-ghost use Rattle.outside.specs.Telling.{Stayed};
-ghost use Rattle.manifest_reader.specs.Served.{IsFileInput, AreFileInputs};
+ghost use Rattle.outside.specs.View.{Stayed};
+ghost use Rattle.manifest_reader.specs.FileManifest.{IsFileInput, AreFileInputs};
 ghost use Rattle.llbuild_cli.specs.Journal.{Knows, IsUnknown, IsOnce};
-ghost use Rattle.llbuild_cli.specs.Looked.{Looked};
-ghost use Rattle.llbuild_cli.specs.Reading.{IsRead, AreRead};
-ghost use Rattle.llbuild_cli.specs.Ready.{IsInput};
-ghost use Rattle.llbuild_cli.specs.Stops.{IsDiskStop, IsReadStop, IsInputStop};
+ghost use Rattle.llbuild_cli.specs.Look.{Looked};
+ghost use Rattle.llbuild_cli.specs.Input.{IsRead, AreRead};
+ghost use Rattle.llbuild_cli.specs.CommandRun.{IsInput};
+ghost use Rattle.llbuild_cli.specs.Stop.{IsDiskStop, IsReadStop, IsInputStop};
 
 use crate::seen::Seen;
 use crate::stop::Stop;
@@ -22,7 +22,7 @@ use outside::world::World;
 use std::alloc::Global;
 
 // What stands at a path: what was seen there, or else what the world says of this source.
-#[tactic(auto, using(crate::proofs::Going::looked_none, crate::proofs::Going::stayed_none))]
+#[tactic(auto, using(crate::proofs::ProgressLemmas::looked_none, crate::proofs::ProgressLemmas::stayed_none))]
 fn look<L: Law, W: World<L>>(
     alloc: Global,
     path: &PathName,

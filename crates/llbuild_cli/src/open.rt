@@ -2,12 +2,12 @@
 ghost use Rattle.std.specs.Prelude.{◌≡◌, ◌⊎◌, Some, None, Ok, IsTrue, map, string_bytes, IfOk, IfErr};
 ghost use Rattle.std.specs.Option.{option_copied};
 ghost use Rattle.std.specs.Str.{is_utf8};
-ghost use Rattle.outside.specs.Telling.{Stayed};
+ghost use Rattle.outside.specs.View.{Stayed};
 ghost use Rattle.manifest_reader.specs.Load.{loaded};
 ghost use Rattle.manifest_reader.specs.Places.{target_named};
-ghost use Rattle.llbuild_cli.specs.Opened.{IsUnread, IsUnloaded, IsOpened};
+ghost use Rattle.llbuild_cli.specs.Open.{IsUnread, IsUnloaded, IsOpened};
 ghost use Rattle.llbuild_cli.specs.Plan.{IsAnswer, IsRefusal};
-ghost use Rattle.llbuild_cli.specs.Words.{job_of};
+ghost use Rattle.llbuild_cli.specs.Job.{job_of};
 
 use crate::refusal::Refusal;
 use crate::words::{Job, UsageFault, read_words};

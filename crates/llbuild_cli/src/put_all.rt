@@ -1,7 +1,7 @@
 //! Writing whole texts.
 ghost use Rattle.std.specs.Prelude.{◌≡◌, ℕ, ◌+◌, ◌-◌, ◌<◌, ◌≤◌, length, take, drop, OnOk, OnErr};
-ghost use Rattle.outside.specs.Telling.{SinkFailed, Grew};
-ghost use Rattle.llbuild_cli.specs.Written.{GrewByPart};
+ghost use Rattle.outside.specs.View.{SinkFailed, Grew};
+ghost use Rattle.llbuild_cli.specs.Growth.{GrewByPart};
 
 use outside::sink::{Sink, SinkFault};
 

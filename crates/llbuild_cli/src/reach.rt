@@ -1,8 +1,8 @@
 //! The commands that a target needs.
 ghost use Rattle.std.specs.Prelude.{◌≡◌, false, length, replicate, IfOk};
-ghost use Rattle.manifest_reader.specs.Served.{IsManifest};
+ghost use Rattle.manifest_reader.specs.FileManifest.{IsManifest};
 ghost use Rattle.build_meaning.specs.Marks.{with_makers};
-ghost use Rattle.build_meaning.specs.Needed.{AreMarks};
+ghost use Rattle.build_meaning.specs.Need.{AreMarks};
 
 use file_info::list::List;
 use file_info::memory::NoMemory;

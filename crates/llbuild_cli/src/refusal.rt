@@ -38,7 +38,7 @@ impl From<NoMemory> for Refusal {
 
 impl From<DiskError> for Refusal {
     ghost use Rattle.std.specs.Prelude.{◌≡◌};
-    ghost use Rattle.llbuild_cli.specs.Opened.{disk_refusal};
+    ghost use Rattle.llbuild_cli.specs.Open.{disk_refusal};
 
     ghost from_gives = { λ error refusal. refusal ≡ disk_refusal error };
 
@@ -53,7 +53,7 @@ impl From<DiskError> for Refusal {
 
 impl From<LoadError> for Refusal {
     ghost use Rattle.std.specs.Prelude.{◌≡◌};
-    ghost use Rattle.llbuild_cli.specs.Opened.{load_refusal};
+    ghost use Rattle.llbuild_cli.specs.Open.{load_refusal};
 
     ghost from_gives = { λ error refusal. refusal ≡ load_refusal error };
 

@@ -1,11 +1,11 @@
 //! The program's own call.
 ghost use Rattle.std.specs.Prelude.{◌≡◌, ◌⊎◌, ◌≤◌, ◌+◌, [], length, map, string_bytes};
 ghost use Rattle.llbuild_cli.specs.Journal.{unused};
-ghost use Rattle.llbuild_cli.specs.Served.{Served, answers_of, run_of, report_of};
-ghost use Rattle.llbuild_cli.specs.Serving.{end_in, without_memory};
+ghost use Rattle.llbuild_cli.specs.Run.{Served, answers_of, run_of, report_of};
+ghost use Rattle.llbuild_cli.specs.Finish.{end_in, without_memory};
 ghost use Rattle.llbuild_cli.specs.Status.{status_of};
-ghost use Rattle.llbuild_cli.specs.Texts.{failure_text};
-ghost use Rattle.llbuild_cli.specs.Written.{WroteUnlessFault};
+ghost use Rattle.llbuild_cli.specs.Text.{failure_text};
+ghost use Rattle.llbuild_cli.specs.Growth.{WroteUnlessFault};
 
 use crate::build::build;
 use crate::open::{Opened, open, target_in};

@@ -3,8 +3,8 @@ ghost use Rattle.std.specs.Prelude.{◌≡◌, ◌<◌, ◌≤◌, ◌+◌, ◌+
 ghost use Rattle.std.specs.HashMap.{get_by_text, spare};
 ghost use Rattle.file_info.specs.Lists.{IsDistinct, In};
 ghost use Rattle.llbuild_cli.specs.Journal.{Knows, IsUnknown, IsOnce, unused};
-ghost use Rattle.llbuild_cli.specs.Noted.{Noted, keys_of, infos_of, with_entries};
-ghost use Rattle.llbuild_cli.specs.Settled.{with_heard};
+ghost use Rattle.llbuild_cli.specs.Index.{Noted, keys_of, infos_of, with_entries};
+ghost use Rattle.llbuild_cli.specs.OrderEnd.{with_heard};
 
 use crate::report::{End, Heard, Outcome, Report, Start, StatSeen};
 use file_info::copied::Copied;

@@ -1,10 +1,10 @@
 //! What comes of an order that ended.
 ghost use Rattle.std.specs.Prelude.{◌≡◌, ℕ, List as Items, map, length, IfOk, IfErr, OnOk};
 ghost use Rattle.file_info.specs.Lists.{In, IsDistinct};
-ghost use Rattle.outside.specs.Telling.{Stayed, Told};
+ghost use Rattle.outside.specs.View.{Stayed, Told};
 ghost use Rattle.llbuild_cli.specs.Journal.{IsUnknown, IsOnce};
-ghost use Rattle.llbuild_cli.specs.Settled.{SettledDone, IsSettleStop};
-ghost use Rattle.llbuild_cli.specs.Stops.{IsDiskStop};
+ghost use Rattle.llbuild_cli.specs.OrderEnd.{SettledDone, IsSettleStop};
+ghost use Rattle.llbuild_cli.specs.Stop.{IsDiskStop};
 
 use crate::seen::Seen;
 use crate::stop::Stop;

@@ -30,7 +30,7 @@ impl From<NoMemory> for Stop {
 
 impl From<DiskError> for Stop {
     ghost use Rattle.std.specs.Prelude.{◌≡◌};
-    ghost use Rattle.llbuild_cli.specs.Stops.{stop_of};
+    ghost use Rattle.llbuild_cli.specs.Stop.{stop_of};
 
     ghost from_gives = { λ error stop. stop ≡ stop_of error };
 
@@ -56,7 +56,7 @@ impl From<SinkFault> for Stop {
 
 impl From<Stop> for End<NoFault> {
     ghost use Rattle.std.specs.Prelude.{◌≡◌};
-    ghost use Rattle.llbuild_cli.specs.Stops.{end_of};
+    ghost use Rattle.llbuild_cli.specs.Stop.{end_of};
 
     ghost from_gives = { λ stop end. end ≡ end_of stop };
 

@@ -1,8 +1,8 @@
 //! The texts that are printed.
 ghost use Rattle.std.specs.Prelude.{◌≡◌, ◌<◌, ◌++◌, IfOk, OnOk, codes, decimal};
-ghost use Rattle.llbuild_cli.specs.Shown.{at_byte, hex_digit, show, shown_byte};
-ghost use Rattle.llbuild_cli.specs.Refusals.{feature_text, left_out_text, load_text, yaml_text};
-ghost use Rattle.llbuild_cli.specs.Texts.{end_text, ending_text, failure_text, is_silent, line_of, summary_text, usage_text};
+ghost use Rattle.llbuild_cli.specs.Escape.{at_byte, hex_digit, show, shown_byte};
+ghost use Rattle.llbuild_cli.specs.ErrorText.{feature_text, left_out_text, load_text, yaml_text};
+ghost use Rattle.llbuild_cli.specs.Text.{end_text, ending_text, failure_text, is_silent, line_of, summary_text, usage_text};
 ghost use Rattle.llbuild_cli.specs.Status.{status_of};
 
 use crate::report::{End, Start};
@@ -66,7 +66,7 @@ pub fn summary(alloc: Global, starts: u64) -> Result<Vec<u8>, NoMemory>
 }
 
 // A text, and the place of a byte after it.
-#[tactic(auto, unfolding(crate::specs::Shown::at_byte))]
+#[tactic(auto, unfolding(crate::specs::Escape::at_byte))]
 fn push_at(alloc: Global, out: &mut Vec<u8>, text: &[u8], at: u64) -> Result<(), AllocError>
     ensures { OnOk result (out.new.items ≡ out.old.items ++ at_byte text.now at) }
 {

@@ -1,7 +1,7 @@
 //! The words of the command line.
 ghost use Rattle.std.specs.Prelude.{◌≡◌, ◌⊎◌, Some, None, map, string_bytes, IfOk, IfErr, IsTrue};
 ghost use Rattle.std.specs.Str.{is_utf8};
-ghost use Rattle.llbuild_cli.specs.Words.{is_form, job_of, path_of};
+ghost use Rattle.llbuild_cli.specs.Job.{is_form, job_of, path_of};
 
 use file_info::list::{Bytes, List};
 use file_info::path::{PathError, PathName};
@@ -26,7 +26,7 @@ pub struct Job {
 }
 
 // Whether the words in front are `buildsystem build --serial --no-db -f`.
-#[tactic(auto, unfolding(crate::specs::Words::is_form))]
+#[tactic(auto, unfolding(crate::specs::Job::is_form))]
 fn is_form(system: &str, build: &str, serial: &str, no_db: &str, option: &str) -> bool
     ensures { result ≡ is_form system.now build.now serial.now no_db.now option.now }
 {
@@ -38,7 +38,7 @@ fn is_form(system: &str, build: &str, serial: &str, no_db: &str, option: &str) -
 }
 
 // The path of a word.
-#[tactic(auto, using(crate::proofs::WordPath::path_accepted, crate::proofs::WordPath::path_refused))]
+#[tactic(auto, using(crate::proofs::JobLemmas::path_accepted, crate::proofs::JobLemmas::path_refused))]
 fn path_of(alloc: Global, word: &str) -> Result<PathName, UsageFault>
     ensures ok { IfOk result (λ path. path_of word.now ≡ Some path) }
     ensures refused { IfErr result (λ fault. (fault ≡ UsageFault.NoMemory) ⊎ (path_of word.now ≡ None)) }

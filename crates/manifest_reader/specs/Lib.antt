@@ -2,11 +2,11 @@ pub mod Errors
 pub mod Tree
 pub mod Nodes
 pub mod Attributes
-pub mod Sorted
+pub mod AttributeOrder
 pub mod Sections
 pub mod Places
 pub mod Rules
 pub mod Makers
 pub mod Manifest
-pub mod Served
+pub mod FileManifest
 pub mod Load

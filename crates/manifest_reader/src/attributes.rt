@@ -4,7 +4,7 @@ ghost use Rattle.std.specs.Option.{is_none};
 ghost use Rattle.yaml_profile.specs.declared.yaml.Pair.{Pair as Entry};
 ghost use Rattle.manifest_reader.specs.Errors.{Answers, Passes, Refuses};
 ghost use Rattle.manifest_reader.specs.Attributes as spec;
-ghost use Rattle.manifest_reader.specs.Sorted.{AreSorted};
+ghost use Rattle.manifest_reader.specs.AttributeOrder.{AreSorted};
 
 use crate::command::{Args, Command, Input, Tool};
 use crate::error::LoadError;

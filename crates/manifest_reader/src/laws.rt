@@ -2,7 +2,7 @@
 ghost use Rattle.std.specs.Prelude.{◌≡◌, ℕ, List, Ok};
 ghost use Rattle.manifest_reader.specs.Load.{loaded};
 ghost use Rattle.manifest_reader.specs.Manifest.{ManifestLists};
-ghost use Rattle.manifest_reader.specs.Served.{IsManifest};
+ghost use Rattle.manifest_reader.specs.FileManifest.{IsManifest};
 
 /// Every manifest that is loaded is made of files and shell commands, within the limits, and keeps the rules.
 pub fn loaded_manifests_are_served()

@@ -1,7 +1,7 @@
 -- Files as the list of all writes: a path holds what the last one left there.
 use Rattle.std.specs.Prelude.{◌≡◌, ◌+◌, ◌&&◌, ℕ, suc, Bool, true, cond, eqb, IsTrue, List, [], ◌∷◌, ◌++◌, length, Option, Some, None, slice_get}
 use Rattle.std.proofs.Common.{subst}
-use Rattle.file_info.specs.Content.{Content, Known, text_at, same_list, Absent, Folder, LinkTo, Text}
+use Rattle.file_info.specs.Content.{Content, FileVersion, text_at, same_list, Absent, Folder, LinkTo, Text}
 use Rattle.file_info.specs.Lists.{In}
 use Rattle.file_info.specs.declared.info.Info.{Info}
 use Rattle.file_info.specs.declared.info.Info.TheVariants.{Missing, Directory, File, Link}
@@ -58,27 +58,27 @@ abbrev pub standing : List Write → List ℕ → Form → Content
 standing ws p f = content_of (last_of ws p) f
 
 -- the map gives the bytes of this write
-abbrev pub AgreesAt : List Known → List ℕ → ℕ → What → Type 0
+abbrev pub AgreesAt : List FileVersion → List ℕ → ℕ → What → Type 0
 AgreesAt m p n Gone = Unit {0}
 AgreesAt m p n Dir = Unit {0}
 AgreesAt m p n (Bytes b) = text_at m p (File (length b) (n ∷ 0 ∷ 0 ∷ 0 ∷ [])) ≡ b
 AgreesAt m p n (LinkText t) = Unit {0}
 
 -- one entry more where bytes were written
-abbrev pub with_known : List ℕ → ℕ → What → List Known → List Known
+abbrev pub with_known : List ℕ → ℕ → What → List FileVersion → List FileVersion
 with_known p n Gone known = known
 with_known p n Dir known = known
 with_known p n (Bytes b) known = record { path = p; info = File (length b) (n ∷ 0 ∷ 0 ∷ 0 ∷ []); text = b } ∷ known
 with_known p n (LinkText t) known = known
 
 -- all bytes that were written, each at its own information
-abbrev pub known_of : List Write → List Known
+abbrev pub known_of : List Write → List FileVersion
 known_of [] = []
 known_of (w ∷ ws) = with_known w.path w.number w.what (known_of ws)
 
 -- the map agrees with each write
-abbrev pub Tells : List Write → List Known → Type 0
-Tells ws m = (k : Known) → In k (known_of ws) → text_at m k.path k.info ≡ k.text
+abbrev pub Tells : List Write → List FileVersion → Type 0
+Tells ws m = (k : FileVersion) → In k (known_of ws) → text_at m k.path k.info ≡ k.text
 
 -- the writes have the numbers from this one on, in their order
 abbrev pub numbered_from : ℕ → List Write → Bool

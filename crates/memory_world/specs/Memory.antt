@@ -1,7 +1,7 @@
 -- What is seen of a world in memory, and the map that agrees with its writes.
 use Rattle.std.specs.Prelude.{true, Some, ◌==◌, ℕ, Bool, List, [], ◌∷◌, ◌++◌, length, if◌then◌else◌}
 use Rattle.std.specs.List.{list_any}
-use Rattle.file_info.specs.Content.{Known}
+use Rattle.file_info.specs.Content.{FileVersion}
 use Rattle.file_info.specs.declared.info.Info.{Info}
 use Rattle.file_info.specs.declared.info.Form.{Form}
 use Rattle.file_info.specs.declared.info.Info.TheVariants.{File}
@@ -9,7 +9,7 @@ use Rattle.outside.specs.declared.order.Order.{Order}
 use Rattle.memory_world.specs.declared.write.What.{What}
 use Rattle.memory_world.specs.declared.write.What.TheVariants.{Gone, Dir, Bytes, LinkText}
 use Rattle.memory_world.specs.declared.write.Write.{Write}
-use Rattle.outside.specs.Telling.{DiskView, Keeps, next_count}
+use Rattle.outside.specs.View.{DiskView, Keeps, next_count}
 use Rattle.memory_world.specs.Log.{known_of, last_of, info_of}
 
 -- all writes, the begun orders, how many orders were begun, the numbers of the calls that fail, how many calls there
@@ -76,6 +76,6 @@ text_of (Bytes text) = text
 text_of (LinkText text) = []
 
 -- every write gives its bytes at its own information
-abbrev pub map_of : List Write → List Known
+abbrev pub map_of : List Write → List FileVersion
 map_of [] = []
 map_of (w ∷ ws) = record { path = w.path; info = File (length (text_of w.what)) (w.number ∷ 0 ∷ 0 ∷ 0 ∷ []); text = text_of w.what } ∷ map_of ws

@@ -1,19 +1,19 @@
 //! A world in memory, in which toy commands run.
 ghost use Rattle.std.specs.Prelude.{◌≡◌, ◌<◌, ◌↔◌, ◌∷◌, ◌++◌, [], ℕ, length, IfOk, IfErr, OnOk, OnErr, IsErrOf, IsTrue, true, false, Err, List as Items};
-ghost use Rattle.file_info.specs.Content.{Known, content, read_contents};
+ghost use Rattle.file_info.specs.Content.{FileVersion, content, read_contents};
 ghost use Rattle.file_info.specs.declared.info.Form.{Form};
 ghost use Rattle.file_info.specs.Lists.{In};
 ghost use Rattle.outside.specs.declared.order.Order.{Order};
 ghost use Rattle.outside.specs.declared.order.Exit.TheVariants.{Code};
-ghost use Rattle.outside.specs.Formed.{IsFormed};
-ghost use Rattle.outside.specs.Outcomes.{SameBut, KeepsDirectories, TakenOut, Unchanged, IsFound, found_contents, contents_at};
-ghost use Rattle.outside.specs.Reading.{FitsInfo, bytes_of};
-ghost use Rattle.outside.specs.Telling.{Stayed, HasCause, next_count};
-ghost use Rattle.memory_world.specs.Performed.{performed, exit_of};
+ghost use Rattle.outside.specs.OrderForm.{IsFormed};
+ghost use Rattle.outside.specs.Outcome.{SameBut, KeepsDirectories, TakenOut, Unchanged, IsFound, found_contents, contents_at};
+ghost use Rattle.outside.specs.FileRead.{FitsInfo, bytes_of};
+ghost use Rattle.outside.specs.View.{Stayed, HasCause, next_count};
+ghost use Rattle.memory_world.specs.Performance.{performed, exit_of};
 ghost use Rattle.memory_world.specs.Log.{last_of, info_of, standing, Tells, numbered_from};
 ghost use Rattle.memory_world.specs.Memory.{is_failing, faults_after, after_call, fails_next, with_order, with_left, Kept, stands, view_of, map_of};
 ghost use Rattle.memory_world.specs.Toy.{ToyDoes};
-ghost use Rattle.memory_world.specs.Exits.{IsToyExit};
+ghost use Rattle.memory_world.specs.Exit.{IsToyExit};
 ghost use Rattle.memory_world.specs.Edits.{after_set, after_dir, after_drop, with_writes};
 
 use crate::command::perform;
@@ -99,7 +99,7 @@ impl MemoryWorld {
         ensures value { result.now ≡ self.now.writes }
         ensures numbered { IsTrue (numbered_from 1 self.now.writes) }
         ensures told { Tells self.now.writes (map_of self.now.writes) }
-        ensures contents { (m : Items Known) (p : Items ℕ) (f : Form) → Tells self.now.writes m
+        ensures contents { (m : Items FileVersion) (p : Items ℕ) (f : Form) → Tells self.now.writes m
             → content m p (info_of (last_of self.now.writes p) f) ≡ standing self.now.writes p f }
     {
         self.files.writes()
@@ -162,7 +162,7 @@ impl Disk<ToyLaw> for MemoryWorld {
     ghost tells_infos = { λ w m t. tt };
 
     // Where the list has the next number a fault is answered, and else what stands, or want of memory.
-    #[tactic(auto, using(crate::proofs::Worlds::stayed_writes))]
+    #[tactic(auto, using(crate::proofs::WorldLemmas::stayed_writes))]
     fn stat(&mut self, alloc: Global, path: &PathName, form: Form) -> Result<Info, DiskError>
         ensures step { self.new ≡ after_call self.old }
         ensures fails { (result ≡ Err DiskError.Fault) ↔ IsTrue (fails_next self.old) }
@@ -177,13 +177,13 @@ impl Disk<ToyLaw> for MemoryWorld {
     }
 
     // Where the list has the next number a fault is answered, and else the bytes that stand, or want of memory.
-    #[tactic(auto, using(crate::proofs::Worlds::stayed_writes))]
+    #[tactic(auto, using(crate::proofs::WorldLemmas::stayed_writes))]
     fn read(&mut self, alloc: Global, path: &PathName, most: u64) -> Result<FileBytes, DiskError>
         ensures step { self.new ≡ after_call self.old }
         ensures fails { (result ≡ Err DiskError.Fault) ↔ IsTrue (fails_next self.old) }
         ensures text { IfOk result (λ b. b ≡ bytes_of most (standing self.old.writes path.now Form.Follow)) }
         ensures info { IfOk result (FitsInfo (stands self.old path.now Form.Follow)) }
-        ensures bytes { (m : Items Known) → Tells self.new.writes m
+        ensures bytes { (m : Items FileVersion) → Tells self.new.writes m
             → IfOk result (λ b. b ≡ bytes_of most (content m path.now (stands self.old path.now Form.Follow))) }
         ensures stayed { Stayed (view_of self.old) (view_of self.new) }
         ensures here { IsErrOf result DiskError.NotDirectory → ⊥ }
@@ -196,12 +196,12 @@ impl Disk<ToyLaw> for MemoryWorld {
 }
 
 impl World<ToyLaw> for MemoryWorld {
-    ghost use Rattle.memory_world.specs.Exits.{IsToyExit};
+    ghost use Rattle.memory_world.specs.Exit.{IsToyExit};
 
     ghost ended = { IsToyExit };
 
     // Where the list has the next number a fault is answered, and else the order is begun, if there is memory.
-    #[tactic(auto, using(crate::proofs::Worlds::keeps_writes))]
+    #[tactic(auto, using(crate::proofs::WorldLemmas::keeps_writes))]
     fn begin(&mut self, _alloc: Global, order: Order) -> Result<(), DiskError>
         ensures taken { OnOk result (self.new ≡ with_order (after_call self.old) order) }
         ensures left { OnErr result (self.new ≡ after_call self.old) }
@@ -243,7 +243,7 @@ impl World<ToyLaw> for MemoryWorld {
         ensures directories { KeepsDirectories (stands self.old) (stands self.new) }
 
         // A command that succeeded on inputs that still stand did what the law says.
-        ensures does { (m : Items Known) → Tells self.new.writes m → IfOk result (λ e. e.exit ≡ Code 0
+        ensures does { (m : Items FileVersion) → Tells self.new.writes m → IfOk result (λ e. e.exit ≡ Code 0
             → IsFormed e.order → Unchanged (stands self.new) e.order
             → (w : Items (Items ℕ)) → IsFound m (stands self.new) e.order.deps w
             → ToyDoes e.order.signature (read_contents m e.order.reads) (found_contents m (stands self.new) e.order w)

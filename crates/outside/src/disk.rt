@@ -1,6 +1,6 @@
 //! A disk.
 ghost use Rattle.std.specs.Prelude.{◌≡◌, ℕ, ◌<◌, ◌≤◌, ◌+◌, List as Items, IfOk, IsErrOf};
-ghost use Rattle.file_info.specs.Content.{Known, content};
+ghost use Rattle.file_info.specs.Content.{FileVersion, content};
 ghost use Rattle.file_info.specs.declared.info.Info.{Info};
 ghost use Rattle.file_info.specs.declared.info.Info.TheVariants as infos;
 ghost use Rattle.file_info.specs.declared.info.Form.{Form};
@@ -8,8 +8,8 @@ ghost use Rattle.file_info.specs.declared.info.Form.TheVariants.{Follow};
 ghost use Rattle.outside.specs.declared.order.Order.{Order};
 ghost use Rattle.outside.specs.declared.disk.DiskError.TheVariants.{NotDirectory};
 ghost use Rattle.outside.specs.declared.disk.FileBytes.{FileBytes};
-ghost use Rattle.outside.specs.Telling.{DiskView, Told, Tells, Stayed, HasCause};
-ghost use Rattle.outside.specs.Reading.{FitsInfo, bytes_of};
+ghost use Rattle.outside.specs.View.{DiskView, Told, Tells, Stayed, HasCause};
+ghost use Rattle.outside.specs.FileRead.{FitsInfo, bytes_of};
 
 use crate::law::Law;
 use file_info::info::{Form, Info};
@@ -79,7 +79,7 @@ pub trait Disk<L: Law> {
     fn read(&mut self, alloc: Global, path: &PathName, most: u64) -> Result<FileBytes, DiskError>
         ensures stayed { Stayed (view self.old) (view self.new) }
         ensures info { Told (view self.new) → IfOk result (FitsInfo ((view self.old).at path.now Follow)) }
-        ensures bytes { (m : Items Known) → Tells (view self.new) m
+        ensures bytes { (m : Items FileVersion) → Tells (view self.new) m
             → IfOk result (λ b. b ≡ bytes_of most (content m path.now ((view self.old).at path.now Follow))) }
         ensures gave { IfOk result (gave path.now most) }
         ensures here { IsErrOf result NotDirectory → ⊥ }
@@ -89,5 +89,5 @@ pub trait Disk<L: Law> {
     ghost leads_to_no_link: { (d : Self) (p : Items ℕ) (text : Items ℕ) → Told (view d) → (view d).at p Follow ≡ infos.Link text → ⊥ };
 
     /// A disk that tells contents tells what stands.
-    ghost tells_infos: { (d : Self) (m : Items Known) → Tells (view d) m → Told (view d) };
+    ghost tells_infos: { (d : Self) (m : Items FileVersion) → Tells (view d) m → Told (view d) };
 }

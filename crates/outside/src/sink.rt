@@ -1,6 +1,6 @@
 //! Where bytes are written.
 ghost use Rattle.std.specs.Prelude.{◌≡◌, ℕ, ◌<◌, ◌≤◌, ◌+◌, List as Items, [], length, take, IfOk, OnErr, Option};
-ghost use Rattle.outside.specs.Telling.{SinkView, SinkFailed, Grew};
+ghost use Rattle.outside.specs.View.{SinkView, SinkFailed, Grew};
 
 /// The sink failed, and its count of faults rose.
 #[derive(Clone, Copy, Debug, PartialEq, Eq)]

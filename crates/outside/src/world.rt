@@ -1,13 +1,13 @@
 //! A world, in which orders are performed.
 ghost use Rattle.std.specs.Prelude.{◌≡◌, ℕ, ◌<◌, ◌≤◌, ◌+◌, ◌^◌, List as Items, [], ◌∷◌, ◌++◌, length, min, IfOk, OnOk, OnErr, IsErrOf};
-ghost use Rattle.file_info.specs.Content.{Known, read_contents};
+ghost use Rattle.file_info.specs.Content.{FileVersion, read_contents};
 ghost use Rattle.outside.specs.declared.order.Order.{Order};
 ghost use Rattle.outside.specs.declared.order.Exit.{Exit};
 ghost use Rattle.outside.specs.declared.order.Exit.TheVariants.{Code};
 ghost use Rattle.outside.specs.declared.disk.DiskError.TheVariants.{NotDirectory};
-ghost use Rattle.outside.specs.Telling.{DiskView, Told, Tells, Keeps, HasCause, next_count};
-ghost use Rattle.outside.specs.Formed.{IsFormed};
-ghost use Rattle.outside.specs.Outcomes.{SameBut, KeepsDirectories, TakenOut, Unchanged, IsFound, found_contents, contents_at};
+ghost use Rattle.outside.specs.View.{DiskView, Told, Tells, Keeps, HasCause, next_count};
+ghost use Rattle.outside.specs.OrderForm.{IsFormed};
+ghost use Rattle.outside.specs.Outcome.{SameBut, KeepsDirectories, TakenOut, Unchanged, IsFound, found_contents, contents_at};
 
 use crate::disk::{Disk, DiskError};
 use crate::law::Law;
@@ -48,7 +48,7 @@ pub trait World<L: Law>: Disk<L> {
         ensures directories { Told (Self.view self.new) → KeepsDirectories (Self.view self.old).at (Self.view self.new).at }
 
         // A command that succeeded on inputs that still stand did what the law says.
-        ensures does { (m : Items Known) → Tells (Self.view self.new) m → IfOk result (λ e. e.exit ≡ Code 0 → IsFormed e.order
+        ensures does { (m : Items FileVersion) → Tells (Self.view self.new) m → IfOk result (λ e. e.exit ≡ Code 0 → IsFormed e.order
             → Unchanged (Self.view self.new).at e.order → (w : Items (Items ℕ)) → IsFound m (Self.view self.new).at e.order.deps w
             → L.does e.order.signature (read_contents m e.order.reads) (found_contents m (Self.view self.new).at e.order w)
             (contents_at m (Self.view self.new).at e.order)) }

@@ -1,6 +1,6 @@
 //! Standard output and standard error.
 ghost use Rattle.std.specs.Prelude.{◌≡◌, ℕ, ◌+◌, ◌<◌, ◌≤◌, length, IfOk, OnOk, OnErr};
-ghost use Rattle.outside.specs.Telling.{next_count};
+ghost use Rattle.outside.specs.View.{next_count};
 
 use outside::sink::{Sink, SinkFault};
 use std::io::Write;
@@ -14,7 +14,7 @@ pub struct StdSink<W: Write + Drop> {
 }
 
 impl<W: Write + Drop> StdSink<W> {
-    ghost use Rattle.real_world.specs.Shown.{sink_faults};
+    ghost use Rattle.real_world.specs.View.{sink_faults};
 
     /// The stream, which has not failed yet.
     pub fn new(writer: W) -> StdSink<W>
@@ -25,7 +25,7 @@ impl<W: Write + Drop> StdSink<W> {
 }
 
 impl<W: Write + Drop> Sink for StdSink<W> {
-    ghost use Rattle.real_world.specs.Shown.{sink_faults, sink_view};
+    ghost use Rattle.real_world.specs.View.{sink_faults, sink_view};
 
     ghost view = { sink_view };
 

@@ -1,6 +1,6 @@
 //! The world of real files and programs. It is the trusted edge: it tells nothing of what files hold.
 ghost use Rattle.std.specs.Prelude.{◌≡◌, ℕ, ◌+◌, ◌<◌, ◌≤◌, [], ◌∷◌, ◌++◌, length, IfOk, OnOk, OnErr, IsErrOf};
-ghost use Rattle.real_world.specs.Counting.{count_after};
+ghost use Rattle.real_world.specs.Count.{count_after};
 
 use crate::files::{bytes_of, disk_error, info_of};
 use crate::programs::Programs;
@@ -56,7 +56,7 @@ fn answer<T: Drop>(faults: &mut u64, outcome: io::Result<T>) -> Result<T, DiskEr
 }
 
 impl<R: Files + AllocGlobal + Drop> RealDisk<R> {
-    ghost use Rattle.real_world.specs.Shown.{disk_faults};
+    ghost use Rattle.real_world.specs.View.{disk_faults};
 
     /// The disk, which has not failed yet.
     pub fn new(rt: R) -> RealDisk<R>
@@ -67,7 +67,7 @@ impl<R: Files + AllocGlobal + Drop> RealDisk<R> {
 }
 
 impl<R: Files + Env + AllocGlobal + Processes + Drop> RealWorld<R> {
-    ghost use Rattle.real_world.specs.Shown.{world_faults, waiting_orders, begun_orders};
+    ghost use Rattle.real_world.specs.View.{world_faults, waiting_orders, begun_orders};
 
     /// The world with nothing begun.
     pub fn new(rt: R) -> RealWorld<R>
@@ -88,8 +88,8 @@ impl<R: Files + Env + AllocGlobal + Processes + Drop> RealWorld<R> {
 
 impl<L: Law, R: Files + AllocGlobal + Drop> Disk<L> for RealDisk<R> {
     ghost use Rattle.std.specs.Prelude.{⊤};
-    ghost use Rattle.real_world.specs.Shown.{disk_faults, disk_view};
-    ghost use Rattle.outside.specs.Telling.{Stayed, HasCause};
+    ghost use Rattle.real_world.specs.View.{disk_faults, disk_view};
+    ghost use Rattle.outside.specs.View.{Stayed, HasCause};
 
     ghost view = { disk_view };
 
@@ -122,8 +122,8 @@ impl<L: Law, R: Files + AllocGlobal + Drop> Disk<L> for RealDisk<R> {
 
 impl<L: Law, R: Files + Env + AllocGlobal + Processes + Drop> Disk<L> for RealWorld<R> {
     ghost use Rattle.std.specs.Prelude.{⊤};
-    ghost use Rattle.real_world.specs.Shown.{world_faults, world_view};
-    ghost use Rattle.outside.specs.Telling.{Stayed, HasCause};
+    ghost use Rattle.real_world.specs.View.{world_faults, world_view};
+    ghost use Rattle.outside.specs.View.{Stayed, HasCause};
 
     ghost view = { world_view };
 
@@ -156,8 +156,8 @@ impl<L: Law, R: Files + Env + AllocGlobal + Processes + Drop> Disk<L> for RealWo
 
 impl<L: Law, R: Files + Env + AllocGlobal + Processes + Drop> World<L> for RealWorld<R> {
     ghost use Rattle.std.specs.Prelude.{⊤};
-    ghost use Rattle.outside.specs.Telling.{HasCause, next_count};
-    ghost use Rattle.real_world.specs.Shown.{world_faults, waiting_orders, begun_orders, world_view};
+    ghost use Rattle.outside.specs.View.{HasCause, next_count};
+    ghost use Rattle.real_world.specs.View.{world_faults, waiting_orders, begun_orders, world_view};
 
     ghost ended = { λ v order exit. ⊤ };
 

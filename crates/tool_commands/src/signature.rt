@@ -4,7 +4,7 @@ ghost use Rattle.file_info.specs.Content.{node_text};
 ghost use Rattle.file_info.specs.Lists.{IsDistinct};
 ghost use Rattle.outside.specs.Spelled.{count_bytes, flag_bytes, text_bytes, list_bytes, node_bytes};
 ghost use Rattle.outside.specs.Meaning.{key_bytes, env_bytes, signature_of};
-ghost use Rattle.outside.specs.Formed.{AreReadsOf, IsActOf, IsOrderOf, paths_of};
+ghost use Rattle.outside.specs.OrderForm.{AreReadsOf, IsActOf, IsOrderOf, paths_of};
 ghost use Rattle.manifest_reader.specs.declared.command.Tool.TheVariants as tools;
 ghost use Rattle.build_meaning.specs.Commands.{key_of, variable_of, meaning_of};
 ghost use Rattle.tool_commands.specs.Program.{program_bytes, definition_bytes, words_of};

@@ -1,4 +1,4 @@
-use Rattle.build_meaning.proofs.Orderly.{orderly}
+use Rattle.build_meaning.proofs.OrderlyLemmas.{orderly}
 use Rattle.build_meaning.proofs.laws.manifests_are_orderly.Goals as goal
 
 pub returns : goal.returns

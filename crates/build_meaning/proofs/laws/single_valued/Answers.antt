@@ -1,5 +1,5 @@
 use Rattle.std.proofs.Common.{[]}
-use Rattle.build_meaning.proofs.Single.{Fresh-unique}
+use Rattle.build_meaning.proofs.FreshLemmas.{Fresh-unique}
 use Rattle.build_meaning.proofs.laws.single_valued.Goals as goal
 
 pub returns : goal.returns

@@ -1,11 +1,11 @@
 use Rattle.std.proofs.Common.{◌≡◌, ◌∙◌, ◌+◌, ℕ, List, length, rules, ap, subst}
-use Rattle.outside.specs.Telling.{Grew}
+use Rattle.outside.specs.View.{Grew}
 use Rattle.llbuild_cli.specs.declared.report.Start.{Start}
-use Rattle.llbuild_cli.specs.Started.{start_of}
-use Rattle.llbuild_cli.specs.Texts.{line_of}
-use Rattle.llbuild_cli.specs.Written.{GrewByPart}
-use Rattle.llbuild_cli.proofs.Going.{on_err}
-use Rattle.llbuild_cli.proofs.Sinks.{part_none, part_whole}
+use Rattle.llbuild_cli.specs.Start.{start_of}
+use Rattle.llbuild_cli.specs.Text.{line_of}
+use Rattle.llbuild_cli.specs.Growth.{GrewByPart}
+use Rattle.llbuild_cli.proofs.ProgressLemmas.{on_err}
+use Rattle.llbuild_cli.proofs.SinkLemmas.{part_none, part_whole}
 use Rattle.llbuild_cli.proofs.announce.announce.Goals as goal
 
 pub returns-in_err-line-clause-part : goal.returns-in_err-line-clause-part

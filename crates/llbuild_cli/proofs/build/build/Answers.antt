@@ -2,30 +2,30 @@ use Rattle.std.proofs.Common.{rules, ◌≡◌, ◌∙◌, ◌++◌, ℕ, List, 
 use Rattle.file_info.specs.Content.{content, node_text}
 use Rattle.file_info.specs.declared.info.Info.{Info}
 use Rattle.file_info.specs.declared.info.Form.TheVariants.{Follow}
-use Rattle.outside.specs.Telling.{Grew}
+use Rattle.outside.specs.View.{Grew}
 use Rattle.build_meaning.specs.Fresh.{Fresh}
-use Rattle.build_meaning.specs.Needed.{AreMarks}
+use Rattle.build_meaning.specs.Need.{AreMarks}
 use Rattle.llbuild_cli.specs.declared.report.Heard.{Heard}
 use Rattle.llbuild_cli.specs.declared.report.Start.{Start}
 use Rattle.llbuild_cli.specs.declared.stop.Stop.TheVariants.{NoMemory}
-use Rattle.llbuild_cli.specs.Built.{IsBuildStop, IsFinishStop}
-use Rattle.llbuild_cli.specs.Heard.{AllDone, AllEnded}
+use Rattle.llbuild_cli.specs.BuildStop.{IsBuildStop, IsFinishStop}
+use Rattle.llbuild_cli.specs.Outcome.{AllDone, AllEnded}
 use Rattle.llbuild_cli.specs.Journal.{Journal, Knows}
 use Rattle.llbuild_cli.specs.Plan.{Plan}
-use Rattle.llbuild_cli.specs.Served.{Answers, answers_of}
-use Rattle.llbuild_cli.specs.Shows.{sights_of}
+use Rattle.llbuild_cli.specs.Run.{Answers, answers_of}
+use Rattle.llbuild_cli.specs.Sight.{sights_of}
 use Rattle.llbuild_cli.specs.Stands.{Stands}
-use Rattle.llbuild_cli.specs.Started.{AllStarted}
-use Rattle.llbuild_cli.specs.Texts.{lines_of, summary_text}
-use Rattle.llbuild_cli.proofs.Asking.{finish_missing, read_not_stuck, target_asks}
-use Rattle.llbuild_cli.proofs.Building.{IsBuilt, did_all, did_stop, finished, nothing_built}
-use Rattle.llbuild_cli.proofs.Going.{moved_stayed}
-use Rattle.llbuild_cli.proofs.Inputs.{read_of}
-use Rattle.llbuild_cli.proofs.Needs.{nodes_settled}
-use Rattle.llbuild_cli.proofs.Sinks.{Grew-none, Grew-both}
-use Rattle.llbuild_cli.proofs.Starting.{all_started}
-use Rattle.llbuild_cli.proofs.Steps.{stands_looked}
-use Rattle.llbuild_cli.proofs.Stopping.{finish_part, finish_stopped, no_part}
+use Rattle.llbuild_cli.specs.Start.{AllStarted}
+use Rattle.llbuild_cli.specs.Text.{lines_of, summary_text}
+use Rattle.llbuild_cli.proofs.MissingLemmas.{finish_missing, read_not_stuck, target_asks}
+use Rattle.llbuild_cli.proofs.DidLemmas.{IsBuilt, did_all, did_stop, finished, nothing_built}
+use Rattle.llbuild_cli.proofs.ProgressLemmas.{moved_stayed}
+use Rattle.llbuild_cli.proofs.InputLemmas.{read_of}
+use Rattle.llbuild_cli.proofs.NeedLemmas.{nodes_settled}
+use Rattle.llbuild_cli.proofs.SinkLemmas.{Grew-none, Grew-both}
+use Rattle.llbuild_cli.proofs.StartLemmas.{all_started}
+use Rattle.llbuild_cli.proofs.StandsLemmas.{stands_looked}
+use Rattle.llbuild_cli.proofs.StopLemmas.{finish_part, finish_stopped, no_part}
 use Rattle.llbuild_cli.proofs.build.build.Goals as goal
 
 pub returns-in_err-marks-clause-did : goal.returns-in_err-marks-clause-did

@@ -1,7 +1,7 @@
 use Rattle.std.proofs.Common.{rules}
 use Rattle.llbuild_cli.specs.declared.stop.Stop.TheVariants.{NoMemory}
-use Rattle.llbuild_cli.proofs.Going.{if_err}
-use Rattle.llbuild_cli.proofs.Sinks.{part_none}
+use Rattle.llbuild_cli.proofs.ProgressLemmas.{if_err}
+use Rattle.llbuild_cli.proofs.SinkLemmas.{part_none}
 use Rattle.llbuild_cli.proofs.build.finish.Goals as goal
 
 pub returns-in_err-text-clause-stop : goal.returns-in_err-text-clause-stop

@@ -3,24 +3,24 @@ use Rattle.std.specs.Prelude.{slice_get, Some}
 use Rattle.file_info.specs.Lists.{In}
 use Rattle.file_info.specs.declared.info.Info.{Info}
 use Rattle.build_meaning.specs.Fresh.{IsMade}
-use Rattle.build_meaning.specs.Needed.{IsNeeded}
+use Rattle.build_meaning.specs.Need.{IsNeeded}
 use Rattle.build_meaning.specs.Orderly.{AreOrderly}
-use Rattle.build_meaning.proofs.Ins.{In-get}
-use Rattle.build_meaning.proofs.Orderly.{orderly}
+use Rattle.build_meaning.proofs.PlaceLemmas.{In-get}
+use Rattle.build_meaning.proofs.OrderlyLemmas.{orderly}
 use Rattle.llbuild_cli.specs.declared.report.Start.{Start}
 use Rattle.llbuild_cli.specs.Journal.{Knows}
 use Rattle.llbuild_cli.specs.Plan.{Plan}
-use Rattle.llbuild_cli.specs.Ready.{IsInput}
-use Rattle.llbuild_cli.specs.Sources.{AreSources}
-use Rattle.llbuild_cli.specs.Started.{AreStarts, start_of}
-use Rattle.llbuild_cli.proofs.Asking.{first_more, run_missing}
-use Rattle.llbuild_cli.proofs.Building.{sources_more}
-use Rattle.llbuild_cli.proofs.Going.{if_err, moved_both, moved_wider}
-use Rattle.llbuild_cli.proofs.Needs.{made_once, inputs_settled, outputs_unseen}
-use Rattle.llbuild_cli.proofs.Runs.{made_here, stands_ran, stands_skip}
-use Rattle.llbuild_cli.proofs.Starting.{starts_more, starts_skip, are_starts, not_started}
-use Rattle.llbuild_cli.proofs.Stopping.{build_stopped, came_starts, done_one, even_names, is_next, names_both, orders_one, orders_stopped, starts_grow, starts_stopped, step_stopped, wrote_more, wrote_stopped}
-use Rattle.build_meaning.proofs.Ins.{In-get, get-read, take-drop-get}
+use Rattle.llbuild_cli.specs.CommandRun.{IsInput}
+use Rattle.llbuild_cli.specs.Source.{AreSources}
+use Rattle.llbuild_cli.specs.Start.{AreStarts, start_of}
+use Rattle.llbuild_cli.proofs.MissingLemmas.{first_more, run_missing}
+use Rattle.llbuild_cli.proofs.DidLemmas.{sources_more}
+use Rattle.llbuild_cli.proofs.ProgressLemmas.{if_err, moved_both, moved_wider}
+use Rattle.llbuild_cli.proofs.NeedLemmas.{made_once, inputs_settled, outputs_unseen}
+use Rattle.llbuild_cli.proofs.PlaceLemmas.{made_here, stands_ran, stands_skip}
+use Rattle.llbuild_cli.proofs.StartLemmas.{starts_more, starts_skip, are_starts, not_started}
+use Rattle.llbuild_cli.proofs.StopLemmas.{build_stopped, came_starts, done_one, even_names, is_next, names_both, orders_one, orders_stopped, starts_grow, starts_stopped, step_stopped, wrote_more, wrote_stopped}
+use Rattle.build_meaning.proofs.PlaceLemmas.{In-get, get-read, take-drop-get}
 use Rattle.llbuild_cli.proofs.build.run_all.Goals as goal
 
 pub run_one-requires-clause-sound : goal.run_one-requires-clause-sound

@@ -1,15 +1,15 @@
 use Rattle.std.proofs.Common.{◌≡◌, ◌≤◌, ◌+◌, [], take, length}
-use Rattle.outside.specs.Telling.{Grew}
-use Rattle.llbuild_cli.specs.Asked.{AllReadFirst}
-use Rattle.llbuild_cli.specs.Built.{IsWritten}
-use Rattle.llbuild_cli.specs.Heard.{AreOrders, AllDone, HeardWell, heard_names}
+use Rattle.outside.specs.View.{Grew}
+use Rattle.llbuild_cli.specs.MissingInput.{AllReadFirst}
+use Rattle.llbuild_cli.specs.BuildStop.{IsWritten}
+use Rattle.llbuild_cli.specs.Outcome.{AreOrders, AllDone, HeardWell, heard_names}
 use Rattle.llbuild_cli.specs.Journal.{Knows, IsOnce}
-use Rattle.llbuild_cli.specs.Moved.{Moved}
-use Rattle.llbuild_cli.specs.Sources.{AreSources}
+use Rattle.llbuild_cli.specs.Move.{Moved}
+use Rattle.llbuild_cli.specs.Source.{AreSources}
 use Rattle.llbuild_cli.specs.Stands.{Stands}
-use Rattle.llbuild_cli.specs.Started.{starts_of}
-use Rattle.llbuild_cli.specs.Texts.{lines_of}
-use Rattle.llbuild_cli.proofs.Starting.{start_names}
+use Rattle.llbuild_cli.specs.Start.{starts_of}
+use Rattle.llbuild_cli.specs.Text.{lines_of}
+use Rattle.llbuild_cli.proofs.StartLemmas.{start_names}
 use Rattle.llbuild_cli.proofs.build.run_all.Given as goal
 
 abbrev pub invariant-commands : goal.invariant-commands

@@ -1,29 +1,29 @@
 use Rattle.std.proofs.Common.{rules, ◌≡◌, ◌∙◌, ◌++◌, ◌∷◌, ◌+◌, [], ℕ, List, length, refl, sym, ap, subst, arith, inl, inr}
 use Rattle.file_info.specs.Lists.{In}
-use Rattle.build_meaning.proofs.Ins.{In-left, In-right, In-either, In-one}
+use Rattle.build_meaning.proofs.PlaceLemmas.{In-left, In-right, In-either, In-one}
 use Rattle.llbuild_cli.specs.declared.report.Start.{Start}
 use Rattle.llbuild_cli.specs.declared.report.StatSeen.{StatSeen}
-use Rattle.llbuild_cli.specs.Started.{start_of}
+use Rattle.llbuild_cli.specs.Start.{start_of}
 use Rattle.llbuild_cli.specs.declared.report.Heard.{Heard}
 use Rattle.llbuild_cli.specs.declared.report.Outcome.TheVariants.{Done}
 use Rattle.std.specs.Prelude.{IfErr}
 use Rattle.file_info.specs.declared.info.Info.{Info}
-use Rattle.file_info.specs.Content.{Known}
-use Rattle.outside.specs.Telling.{Grew, Told, Tells}
-use Rattle.llbuild_cli.specs.Asked.{ReadFirst}
-use Rattle.llbuild_cli.specs.Stops.{AskedBefore}
-use Rattle.llbuild_cli.specs.Texts.{line_of}
-use Rattle.llbuild_cli.specs.Heard.{HeardWell}
+use Rattle.file_info.specs.Content.{FileVersion}
+use Rattle.outside.specs.View.{Grew, Told, Tells}
+use Rattle.llbuild_cli.specs.MissingInput.{ReadFirst}
+use Rattle.llbuild_cli.specs.Stop.{AskedBefore}
+use Rattle.llbuild_cli.specs.Text.{line_of}
+use Rattle.llbuild_cli.specs.Outcome.{HeardWell}
 use Rattle.llbuild_cli.specs.Journal.{Journal, Knows, IsOnce}
-use Rattle.llbuild_cli.specs.Looked.{CameFrom}
-use Rattle.llbuild_cli.specs.Ready.{IsInput, IsOutput, SeenStands, ReadsStand, Ran}
-use Rattle.llbuild_cli.specs.Moved.{Moved}
-use Rattle.llbuild_cli.specs.Shows.{sights_of}
-use Rattle.llbuild_cli.proofs.Going.{if_err, looked_sources, stayed_at, moved_both, moved_stayed, moved_wider}
-use Rattle.llbuild_cli.proofs.Inputs.{reads_fit}
-use Rattle.llbuild_cli.proofs.Ones.{knows_same, stands_same, once_same, came_same, stands_moved, stands_stayed, seen_stands_looked, seen_apart, ran_stands, reads_stand, ran_one, did_on, heard_on, heard_same, heard_more, given_one, lawful_done}
-use Rattle.llbuild_cli.proofs.Stopping.{run_stopped, settle_stopped, heard_stopped, settle_shows}
-use Rattle.llbuild_cli.proofs.Asking.{input_asked, disk_asked, sink_asked, settle_asked, first_looked, first_started, settle_orders, settle_kept, order_reads}
+use Rattle.llbuild_cli.specs.Look.{CameFrom}
+use Rattle.llbuild_cli.specs.CommandRun.{IsInput, IsOutput, SeenStands, ReadsStand, DidCommand}
+use Rattle.llbuild_cli.specs.Move.{Moved}
+use Rattle.llbuild_cli.specs.Sight.{sights_of}
+use Rattle.llbuild_cli.proofs.ProgressLemmas.{if_err, looked_sources, stayed_at, moved_both, moved_stayed, moved_wider}
+use Rattle.llbuild_cli.proofs.InputLemmas.{reads_fit}
+use Rattle.llbuild_cli.proofs.CommandLemmas.{knows_same, stands_same, once_same, came_same, stands_moved, stands_stayed, seen_stands_looked, seen_apart, ran_stands, reads_stand, ran_one, did_on, heard_on, heard_same, heard_more, given_one, lawful_done}
+use Rattle.llbuild_cli.proofs.StopLemmas.{run_stopped, settle_stopped, heard_stopped, settle_shows}
+use Rattle.llbuild_cli.proofs.MissingLemmas.{input_asked, disk_asked, sink_asked, settle_asked, first_looked, first_started, settle_orders, settle_kept, order_reads}
 use Rattle.llbuild_cli.proofs.build.run_one.Goals as goal
 
 pub returns-in_err-reads-clause-stop : goal.returns-in_err-reads-clause-stop
@@ -698,8 +698,8 @@ returns-clause-ran g c =
     let done = c.in_ok-settle.ensures.done in
     let exit = c.in_ok-settle.ensures.exit in
     let last : Heard = record { order = order; outcome = Done [] done.infos } in
-    let did = λ (m : List Known) (t : Tells (view c.execute.new.world) m). c.in_ok-ended.ensures.does m t exit (read_stands (g.met.W.Disk.tells_infos c.gather.new.world m (c.execute.ensures.moved.keeps.contents m t))) in
-    let ran : Ran g.L.Law.does cmd (view c.settle.new.world) old c.settle.new.seen =
+    let did = λ (m : List FileVersion) (t : Tells (view c.execute.new.world) m). c.in_ok-ended.ensures.does m t exit (read_stands (g.met.W.Disk.tells_infos c.gather.new.world m (c.execute.ensures.moved.keeps.contents m t))) in
+    let ran : DidCommand g.L.Law.does cmd (view c.settle.new.world) old c.settle.new.seen =
     ran_one cmd reads order (g.met.W.Disk.tells_infos c.settle.new.world) c.requires.sound looked same_stats same_heard read c.execute.ensures.moved c.settle.ensures.stayed is.outputs_are done did in
     ran
 
@@ -734,8 +734,8 @@ returns-clause-announced g c =
     let done = c.in_ok-settle.ensures.done in
     let exit = c.in_ok-settle.ensures.exit in
     let last : Heard = record { order = order; outcome = Done [] done.infos } in
-    let did = λ (m : List Known) (t : Tells (view c.execute.new.world) m). c.in_ok-ended.ensures.does m t exit (read_stands (g.met.W.Disk.tells_infos c.gather.new.world m (c.execute.ensures.moved.keeps.contents m t))) in
-    let ran : Ran g.L.Law.does cmd (view c.settle.new.world) old c.settle.new.seen =
+    let did = λ (m : List FileVersion) (t : Tells (view c.execute.new.world) m). c.in_ok-ended.ensures.does m t exit (read_stands (g.met.W.Disk.tells_infos c.gather.new.world m (c.execute.ensures.moved.keeps.contents m t))) in
+    let ran : DidCommand g.L.Law.does cmd (view c.settle.new.world) old c.settle.new.seen =
     ran_one cmd reads order (g.met.W.Disk.tells_infos c.settle.new.world) c.requires.sound looked same_stats same_heard read c.execute.ensures.moved c.settle.ensures.stayed is.outputs_are done did in
     record { more = c.settle.ensures.starts ∙ more; grew = subst (λ (n : ℕ). Grew (g.O.Sink.view c.args.out.now) (g.O.Sink.view c.announce.new.out) (line_of (n + 1) (start_of cmd))) (ap length looked.starts) c.in_ok-ticket.ensures.wrote }
 
@@ -770,8 +770,8 @@ returns-clause-done g c =
     let done = c.in_ok-settle.ensures.done in
     let exit = c.in_ok-settle.ensures.exit in
     let last : Heard = record { order = order; outcome = Done [] done.infos } in
-    let did = λ (m : List Known) (t : Tells (view c.execute.new.world) m). c.in_ok-ended.ensures.does m t exit (read_stands (g.met.W.Disk.tells_infos c.gather.new.world m (c.execute.ensures.moved.keeps.contents m t))) in
-    let ran : Ran g.L.Law.does cmd (view c.settle.new.world) old c.settle.new.seen =
+    let did = λ (m : List FileVersion) (t : Tells (view c.execute.new.world) m). c.in_ok-ended.ensures.does m t exit (read_stands (g.met.W.Disk.tells_infos c.gather.new.world m (c.execute.ensures.moved.keeps.contents m t))) in
+    let ran : DidCommand g.L.Law.does cmd (view c.settle.new.world) old c.settle.new.seen =
     ran_one cmd reads order (g.met.W.Disk.tells_infos c.settle.new.world) c.requires.sound looked same_stats same_heard read c.execute.ensures.moved c.settle.ensures.stayed is.outputs_are done did in
     record {
       one = record {
@@ -815,8 +815,8 @@ returns-clause-stood g c =
     let done = c.in_ok-settle.ensures.done in
     let exit = c.in_ok-settle.ensures.exit in
     let last : Heard = record { order = order; outcome = Done [] done.infos } in
-    let did = λ (m : List Known) (t : Tells (view c.execute.new.world) m). c.in_ok-ended.ensures.does m t exit (read_stands (g.met.W.Disk.tells_infos c.gather.new.world m (c.execute.ensures.moved.keeps.contents m t))) in
-    let ran : Ran g.L.Law.does cmd (view c.settle.new.world) old c.settle.new.seen =
+    let did = λ (m : List FileVersion) (t : Tells (view c.execute.new.world) m). c.in_ok-ended.ensures.does m t exit (read_stands (g.met.W.Disk.tells_infos c.gather.new.world m (c.execute.ensures.moved.keeps.contents m t))) in
+    let ran : DidCommand g.L.Law.does cmd (view c.settle.new.world) old c.settle.new.seen =
     ran_one cmd reads order (g.met.W.Disk.tells_infos c.settle.new.world) c.requires.sound looked same_stats same_heard read c.execute.ensures.moved c.settle.ensures.stayed is.outputs_are done did in
     ran_stands cmd c.requires.unseen c.requires.stands moved ran
 
@@ -851,8 +851,8 @@ returns-clause-sources g c =
     let done = c.in_ok-settle.ensures.done in
     let exit = c.in_ok-settle.ensures.exit in
     let last : Heard = record { order = order; outcome = Done [] done.infos } in
-    let did = λ (m : List Known) (t : Tells (view c.execute.new.world) m). c.in_ok-ended.ensures.does m t exit (read_stands (g.met.W.Disk.tells_infos c.gather.new.world m (c.execute.ensures.moved.keeps.contents m t))) in
-    let ran : Ran g.L.Law.does cmd (view c.settle.new.world) old c.settle.new.seen =
+    let did = λ (m : List FileVersion) (t : Tells (view c.execute.new.world) m). c.in_ok-ended.ensures.does m t exit (read_stands (g.met.W.Disk.tells_infos c.gather.new.world m (c.execute.ensures.moved.keeps.contents m t))) in
+    let ran : DidCommand g.L.Law.does cmd (view c.settle.new.world) old c.settle.new.seen =
     ran_one cmd reads order (g.met.W.Disk.tells_infos c.settle.new.world) c.requires.sound looked same_stats same_heard read c.execute.ensures.moved c.settle.ensures.stayed is.outputs_are done did in
     came_same old middle c.settle.new.seen (c.settle.ensures.stats ∙ same_stats) (looked_sources looked)
 
@@ -887,8 +887,8 @@ returns-clause-moved g c =
     let done = c.in_ok-settle.ensures.done in
     let exit = c.in_ok-settle.ensures.exit in
     let last : Heard = record { order = order; outcome = Done [] done.infos } in
-    let did = λ (m : List Known) (t : Tells (view c.execute.new.world) m). c.in_ok-ended.ensures.does m t exit (read_stands (g.met.W.Disk.tells_infos c.gather.new.world m (c.execute.ensures.moved.keeps.contents m t))) in
-    let ran : Ran g.L.Law.does cmd (view c.settle.new.world) old c.settle.new.seen =
+    let did = λ (m : List FileVersion) (t : Tells (view c.execute.new.world) m). c.in_ok-ended.ensures.does m t exit (read_stands (g.met.W.Disk.tells_infos c.gather.new.world m (c.execute.ensures.moved.keeps.contents m t))) in
+    let ran : DidCommand g.L.Law.does cmd (view c.settle.new.world) old c.settle.new.seen =
     ran_one cmd reads order (g.met.W.Disk.tells_infos c.settle.new.world) c.requires.sound looked same_stats same_heard read c.execute.ensures.moved c.settle.ensures.stayed is.outputs_are done did in
     moved_wider (λ p o. (still, o)) moved
 
@@ -923,8 +923,8 @@ returns-clause-heard g c =
     let done = c.in_ok-settle.ensures.done in
     let exit = c.in_ok-settle.ensures.exit in
     let last : Heard = record { order = order; outcome = Done [] done.infos } in
-    let did = λ (m : List Known) (t : Tells (view c.execute.new.world) m). c.in_ok-ended.ensures.does m t exit (read_stands (g.met.W.Disk.tells_infos c.gather.new.world m (c.execute.ensures.moved.keeps.contents m t))) in
-    let ran : Ran g.L.Law.does cmd (view c.settle.new.world) old c.settle.new.seen =
+    let did = λ (m : List FileVersion) (t : Tells (view c.execute.new.world) m). c.in_ok-ended.ensures.does m t exit (read_stands (g.met.W.Disk.tells_infos c.gather.new.world m (c.execute.ensures.moved.keeps.contents m t))) in
+    let ran : DidCommand g.L.Law.does cmd (view c.settle.new.world) old c.settle.new.seen =
     ran_one cmd reads order (g.met.W.Disk.tells_infos c.settle.new.world) c.requires.sound looked same_stats same_heard read c.execute.ensures.moved c.settle.ensures.stayed is.outputs_are done did in
     heard_same (ap (λ (j : Journal). j.heard) done.is)
     (heard_more (heard_on c.settle.ensures.stayed.keeps well) last
@@ -963,8 +963,8 @@ returns-clause-read g c =
     let done = c.in_ok-settle.ensures.done in
     let exit = c.in_ok-settle.ensures.exit in
     let last : Heard = record { order = order; outcome = Done [] done.infos } in
-    let did = λ (m : List Known) (t : Tells (view c.execute.new.world) m). c.in_ok-ended.ensures.does m t exit (read_stands (g.met.W.Disk.tells_infos c.gather.new.world m (c.execute.ensures.moved.keeps.contents m t))) in
-    let ran : Ran g.L.Law.does cmd (view c.settle.new.world) old c.settle.new.seen =
+    let did = λ (m : List FileVersion) (t : Tells (view c.execute.new.world) m). c.in_ok-ended.ensures.does m t exit (read_stands (g.met.W.Disk.tells_infos c.gather.new.world m (c.execute.ensures.moved.keeps.contents m t))) in
+    let ran : DidCommand g.L.Law.does cmd (view c.settle.new.world) old c.settle.new.seen =
     ran_one cmd reads order (g.met.W.Disk.tells_infos c.settle.new.world) c.requires.sound looked same_stats same_heard read c.execute.ensures.moved c.settle.ensures.stayed is.outputs_are done did in
     first_started cmd reads c.settle.new.seen looked read (c.settle.ensures.stats ∙ same_stats) (c.settle.ensures.starts ∙ more)
     (λ h i. subst (λ (hs : List Heard). In h hs) (sym (ap (λ (j : Journal). j.heard) done.is)) (In-left h noting.heard (last ∷ []) (subst (λ (hs : List Heard). In h hs) (sym same_heard) i)))

@@ -4,8 +4,8 @@ use Rattle.file_info.specs.declared.node.Read.{Read}
 use Rattle.manifest_reader.specs.declared.command.Command.{Command}
 use Rattle.manifest_reader.specs.declared.command.Tool.TheVariants.{Shell}
 use Rattle.outside.specs.declared.order.Order.{Order}
-use Rattle.llbuild_cli.specs.Ready.{IsOutput, IsOrderFor, ReadsStand}
-use Rattle.llbuild_cli.proofs.Orders.{taken_one, written_one, no_deps, did_step, file_of, unchanged, reads_on}
+use Rattle.llbuild_cli.specs.CommandRun.{IsOutput, IsOrderFor, ReadsStand}
+use Rattle.llbuild_cli.proofs.OrderLemmas.{taken_one, written_one, no_deps, did_step, file_of, unchanged, reads_on}
 use Rattle.llbuild_cli.proofs.execute.execute.Goals as goal
 
 pub returns-clause-order : goal.returns-clause-order

@@ -2,7 +2,7 @@ use Rattle.std.proofs.Common.{map}
 use Rattle.std.specs.Prelude.{string_bytes}
 use Rattle.std.specs.Global.{Global}
 use Rattle.llbuild_cli.specs.InMemory.{seen_in}
-use Rattle.llbuild_cli.proofs.Memories.{planned_ok, fresh_planned, wrote_planned}
+use Rattle.llbuild_cli.proofs.MemoryLemmas.{planned_ok, fresh_planned, wrote_planned}
 use Rattle.llbuild_cli.proofs.in_memory.run_in_memory.Goals as goal
 
 pub returns-clause-fresh : goal.returns-clause-fresh

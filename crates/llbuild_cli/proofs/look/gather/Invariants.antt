@@ -1,9 +1,9 @@
 use Rattle.std.proofs.Common.{take}
-use Rattle.outside.specs.Telling.{Stayed}
+use Rattle.outside.specs.View.{Stayed}
 use Rattle.llbuild_cli.specs.Journal.{Knows, IsOnce}
-use Rattle.llbuild_cli.specs.Looked.{Looked}
-use Rattle.llbuild_cli.specs.Reading.{AreRead}
-use Rattle.llbuild_cli.specs.Ready.{IsInput}
+use Rattle.llbuild_cli.specs.Look.{Looked}
+use Rattle.llbuild_cli.specs.Input.{AreRead}
+use Rattle.llbuild_cli.specs.CommandRun.{IsInput}
 use Rattle.llbuild_cli.proofs.look.gather.Given as goal
 
 abbrev pub invariant-loop-input : goal.invariant-loop-input

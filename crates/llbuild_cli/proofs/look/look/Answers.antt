@@ -1,8 +1,8 @@
 use Rattle.std.proofs.Common.{◌∙◌, sym}
 use Rattle.file_info.specs.declared.info.Form.TheVariants.{Follow}
-use Rattle.llbuild_cli.proofs.Going.{stayed_at}
-use Rattle.llbuild_cli.proofs.Journals.{source_known}
-use Rattle.llbuild_cli.proofs.Steps.{looked_source}
+use Rattle.llbuild_cli.proofs.ProgressLemmas.{stayed_at}
+use Rattle.llbuild_cli.proofs.JournalLemmas.{source_known}
+use Rattle.llbuild_cli.proofs.StandsLemmas.{looked_source}
 use Rattle.llbuild_cli.proofs.look.look.Goals as goal
 
 pub returns-clause-looked : goal.returns-clause-looked

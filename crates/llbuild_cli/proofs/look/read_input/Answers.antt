@@ -1,7 +1,7 @@
 use Rattle.std.proofs.Common.{◌∙◌, rules, refl, sym, ap, inl}
 use Rattle.file_info.specs.Content.{node_text}
-use Rattle.llbuild_cli.proofs.Going.{looked_wider, if_err}
-use Rattle.llbuild_cli.proofs.Inputs.{disk_read}
+use Rattle.llbuild_cli.proofs.ProgressLemmas.{looked_wider, if_err}
+use Rattle.llbuild_cli.proofs.InputLemmas.{disk_read}
 use Rattle.llbuild_cli.proofs.look.read_input.Goals as goal
 
 pub returns-in_err-info-clause-looked : goal.returns-in_err-info-clause-looked

@@ -1,10 +1,10 @@
 use Rattle.std.proofs.Common.{rules, refl, subst}
 use Rattle.outside.specs.declared.disk.FileBytes.{FileBytes}
 use Rattle.outside.specs.declared.disk.FileBytes.TheVariants.{Missing, NotFile, TooLong}
-use Rattle.llbuild_cli.specs.Opened.{disk_refusal, unplanned}
+use Rattle.llbuild_cli.specs.Open.{disk_refusal, unplanned}
 use Rattle.llbuild_cli.specs.Plan.{IsAnswer}
-use Rattle.llbuild_cli.proofs.Going.{if_err}
-use Rattle.llbuild_cli.proofs.Opening.{disk_unread, file_unread}
+use Rattle.llbuild_cli.proofs.ProgressLemmas.{if_err}
+use Rattle.llbuild_cli.proofs.OpenLemmas.{disk_unread, file_unread}
 use Rattle.llbuild_cli.proofs.open.bytes_of.Goals as goal
 
 pub returns-in_err-bytes-clause-refused : goal.returns-in_err-bytes-clause-refused

@@ -2,9 +2,9 @@ use Rattle.std.proofs.Common.{rules, ◌≡◌, ◌⊎◌, ℕ, List, subst}
 use Rattle.std.specs.Prelude.{Err}
 use Rattle.manifest_reader.specs.declared.error.LoadError.TheVariants as load
 use Rattle.manifest_reader.specs.Load.{loaded}
-use Rattle.llbuild_cli.specs.Opened.{load_refusal}
-use Rattle.llbuild_cli.proofs.Going.{if_err}
-use Rattle.llbuild_cli.proofs.Opening.{load_unloaded}
+use Rattle.llbuild_cli.specs.Open.{load_refusal}
+use Rattle.llbuild_cli.proofs.ProgressLemmas.{if_err}
+use Rattle.llbuild_cli.proofs.OpenLemmas.{load_unloaded}
 use Rattle.llbuild_cli.proofs.open.manifest_of.Goals as goal
 
 pub returns-in_err-manifest-clause-refused : goal.returns-in_err-manifest-clause-refused

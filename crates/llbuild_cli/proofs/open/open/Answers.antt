@@ -2,8 +2,8 @@ use Rattle.std.proofs.Common.{rules, refl, map}
 use Rattle.std.specs.Prelude.{string_bytes}
 use Rattle.std.specs.Global.{Global}
 use Rattle.outside.specs.declared.disk.FileBytes.TheVariants.{Bytes}
-use Rattle.llbuild_cli.proofs.Going.{if_err}
-use Rattle.llbuild_cli.proofs.Opening.{words_refused, read_refused, load_refused}
+use Rattle.llbuild_cli.proofs.ProgressLemmas.{if_err}
+use Rattle.llbuild_cli.proofs.OpenLemmas.{words_refused, read_refused, load_refused}
 use Rattle.llbuild_cli.proofs.open.open.Goals as goal
 
 pub returns-in_err-job-clause-refused : goal.returns-in_err-job-clause-refused

@@ -1,7 +1,7 @@
 use Rattle.std.proofs.Common.{◌≡◌, ◌-◌, ℕ, List, take, drop, length, sym, subst, arith, length-drop, ap}
 use Rattle.std.proofs.lemmas.List.{take_all}
-use Rattle.outside.specs.Telling.{Grew}
-use Rattle.llbuild_cli.proofs.Sinks.{Grew-both, take-both}
+use Rattle.outside.specs.View.{Grew}
+use Rattle.llbuild_cli.proofs.SinkLemmas.{Grew-both, take-both}
 use Rattle.llbuild_cli.proofs.put_all.put_all.Goals as goal
 
 pub rest-preserved : goal.rest-preserved

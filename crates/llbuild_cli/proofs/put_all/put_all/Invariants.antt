@@ -1,5 +1,5 @@
 use Rattle.std.proofs.Common.{◌≤◌, ◌-◌, take, length}
-use Rattle.outside.specs.Telling.{Grew}
+use Rattle.outside.specs.View.{Grew}
 use Rattle.llbuild_cli.proofs.put_all.put_all.Given as goal
 
 abbrev pub invariant-rest : goal.invariant-rest

@@ -3,7 +3,7 @@ use Rattle.std.proofs.lemmas.Option.{slice_get-get_or}
 use Rattle.manifest_reader.specs.declared.command.Command.{Command}
 use Rattle.manifest_reader.specs.declared.command.Input.{Input}
 use Rattle.build_meaning.specs.Marks.{with_makers}
-use Rattle.build_meaning.proofs.Marks.{AreMarkedFrom, IsMarked, begin_marks, skip_marks, take_marks, end_marks}
+use Rattle.build_meaning.proofs.MarkLemmas.{AreMarkedFrom, IsMarked, begin_marks, skip_marks, take_marks, end_marks}
 use Rattle.llbuild_cli.proofs.reach.walk.Goals as goal
 
 -- a mark that is read

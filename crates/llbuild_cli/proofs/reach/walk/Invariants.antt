@@ -1,4 +1,4 @@
-use Rattle.build_meaning.proofs.Marks.{AreMarkedFrom}
+use Rattle.build_meaning.proofs.MarkLemmas.{AreMarkedFrom}
 use Rattle.llbuild_cli.proofs.reach.walk.Given as goal
 
 abbrev pub invariant-loop-place : goal.invariant-loop-place

@@ -1,8 +1,8 @@
 use Rattle.std.proofs.Common.{map}
 use Rattle.std.specs.Prelude.{string_bytes}
 use Rattle.std.specs.Global.{Global}
-use Rattle.llbuild_cli.specs.Served.{answers_of}
-use Rattle.llbuild_cli.proofs.Serving.{told_or_not}
+use Rattle.llbuild_cli.specs.Run.{answers_of}
+use Rattle.llbuild_cli.proofs.RunLemmas.{told_or_not}
 use Rattle.llbuild_cli.proofs.run.run_alone.Goals as goal
 
 pub returns-clause-served : goal.returns-clause-served

@@ -5,13 +5,13 @@ use Rattle.outside.specs.declared.world.NoFault.{NoFault}
 use Rattle.llbuild_cli.specs.declared.report.End.{End}
 use Rattle.llbuild_cli.specs.declared.refusal.Refusal.TheVariants.{UnknownTarget}
 use Rattle.llbuild_cli.specs.Plan.{Plan, refused_end}
-use Rattle.llbuild_cli.specs.Served.{Answers, answers_of}
-use Rattle.llbuild_cli.specs.Serving.{end_in}
-use Rattle.llbuild_cli.specs.Stops.{end_of}
-use Rattle.manifest_reader.proofs.Served.{loaded-served}
-use Rattle.llbuild_cli.proofs.Going.{known_err}
-use Rattle.llbuild_cli.proofs.Opening.{named_in, opened_plan, opened_unknown}
-use Rattle.llbuild_cli.proofs.Serving.{declined, declined_err, planned_err}
+use Rattle.llbuild_cli.specs.Run.{Answers, answers_of}
+use Rattle.llbuild_cli.specs.Finish.{end_in}
+use Rattle.llbuild_cli.specs.Stop.{end_of}
+use Rattle.manifest_reader.proofs.ManifestLemmas.{loaded-served}
+use Rattle.llbuild_cli.proofs.ProgressLemmas.{known_err}
+use Rattle.llbuild_cli.proofs.OpenLemmas.{named_in, opened_plan, opened_unknown}
+use Rattle.llbuild_cli.proofs.RunLemmas.{declined, declined_err, planned_err}
 use Rattle.llbuild_cli.proofs.run.serve.Goals as goal
 
 pub build-requires-clause-manifest : goal.build-requires-clause-manifest

@@ -1,6 +1,6 @@
 use Rattle.std.proofs.Common.{◌∙◌}
-use Rattle.llbuild_cli.specs.Texts.{failure_text}
-use Rattle.llbuild_cli.proofs.Sinks.{written_text}
+use Rattle.llbuild_cli.specs.Text.{failure_text}
+use Rattle.llbuild_cli.proofs.SinkLemmas.{written_text}
 use Rattle.llbuild_cli.proofs.run.tell.Goals as goal
 
 pub returns-in-Ok-clause-wrote : goal.returns-in-Ok-clause-wrote

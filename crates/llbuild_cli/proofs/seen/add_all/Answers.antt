@@ -1,7 +1,7 @@
 use Rattle.std.proofs.Common.{ℕ, List, length, sym, ap, ◌∙◌, arith}
 use Rattle.std.specs.HashMap.{get_by_text}
-use Rattle.llbuild_cli.specs.Noted.{with_entries}
-use Rattle.llbuild_cli.proofs.Journals.{with_next}
+use Rattle.llbuild_cli.specs.Index.{with_entries}
+use Rattle.llbuild_cli.proofs.JournalLemmas.{with_next}
 use Rattle.llbuild_cli.proofs.seen.add_all.Goals as goal
 
 pub loop-key-preserved : goal.loop-key-preserved

@@ -1,6 +1,6 @@
 use Rattle.std.proofs.Common.{◌≡◌, ◌≤◌, ℕ, List, length}
 use Rattle.std.specs.HashMap.{get_by_text, spare}
-use Rattle.llbuild_cli.specs.Noted.{with_entries}
+use Rattle.llbuild_cli.specs.Index.{with_entries}
 use Rattle.llbuild_cli.proofs.seen.add_all.Given as goal
 
 abbrev pub invariant-loop-key : goal.invariant-loop-key

@@ -1,5 +1,5 @@
 use Rattle.std.proofs.Common.{◌≡◌, take}
-use Rattle.llbuild_cli.specs.Noted.{keys_of, infos_of}
+use Rattle.llbuild_cli.specs.Index.{keys_of, infos_of}
 use Rattle.llbuild_cli.proofs.seen.entries_of.Given as goal
 
 abbrev pub invariant-loop-place : goal.invariant-loop-place

@@ -1,7 +1,7 @@
 use Rattle.std.proofs.Common.{◌≡◌, ◌+◌, ◌++◌, ◌∷◌, [], ◌∙◌, ℕ, List, take, length, length-append, sym, ap, arith}
 use Rattle.std.proofs.lemmas.List.{take_more}
 use Rattle.file_info.specs.declared.info.Form.TheVariants.{Follow}
-use Rattle.llbuild_cli.proofs.Going.{stayed_at, stayed_both, infos_more}
+use Rattle.llbuild_cli.proofs.ProgressLemmas.{stayed_at, stayed_both, infos_more}
 use Rattle.llbuild_cli.proofs.settle.stat_all.Goals as goal
 
 pub returns-in_err-info-clause-stayed : goal.returns-in_err-info-clause-stayed

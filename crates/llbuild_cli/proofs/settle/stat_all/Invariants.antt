@@ -1,6 +1,6 @@
 use Rattle.std.proofs.Common.{◌≡◌, ℕ, List, take, map, length}
 use Rattle.file_info.specs.declared.info.Form.TheVariants.{Follow}
-use Rattle.outside.specs.Telling.{Stayed, Told}
+use Rattle.outside.specs.View.{Stayed, Told}
 use Rattle.llbuild_cli.proofs.settle.stat_all.Given as goal
 
 abbrev pub invariant-loop-path : goal.invariant-loop-path

@@ -1,5 +1,5 @@
 use Rattle.std.proofs.Common.{◌≡◌, ◌++◌, take}
-use Rattle.llbuild_cli.specs.Shown.{show}
+use Rattle.llbuild_cli.specs.Escape.{show}
 use Rattle.llbuild_cli.proofs.texts.push_shown.Given as goal
 
 abbrev pub invariant-loop-byte : goal.invariant-loop-byte

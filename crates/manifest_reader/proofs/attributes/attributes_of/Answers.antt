@@ -4,10 +4,10 @@ use Rattle.yaml_profile.specs.declared.yaml.Pair.{Pair}
 use Rattle.manifest_reader.specs.declared.attributes.Attributes.{Attributes}
 use Rattle.manifest_reader.specs.Tree.{when}
 use Rattle.manifest_reader.specs.Attributes.{are_attributes, attributes_of, values_of}
-use Rattle.manifest_reader.specs.Sorted.{AreSorted}
-use Rattle.manifest_reader.proofs.Loops.{nothing_left}
-use Rattle.manifest_reader.proofs.Sorted.{none_sorted}
-use Rattle.manifest_reader.proofs.Walk.{refuses_by}
+use Rattle.manifest_reader.specs.AttributeOrder.{AreSorted}
+use Rattle.manifest_reader.proofs.LoopLemmas.{nothing_left}
+use Rattle.manifest_reader.proofs.SortLemmas.{none_sorted}
+use Rattle.manifest_reader.proofs.WalkLemmas.{refuses_by}
 use Rattle.manifest_reader.proofs.attributes.attributes_of.Goals as goal
 
 refused : (ps : List Pair) → are_attributes ps ≡ false → attributes_of ps ≡ None

@@ -1,6 +1,6 @@
 use Rattle.std.proofs.Common.{◌≡◌, ◌++◌, length}
 use Rattle.std.specs.Vec.Iter.{into_iter_items, into_iter_len}
-use Rattle.manifest_reader.specs.Sorted.{AreSorted}
+use Rattle.manifest_reader.specs.AttributeOrder.{AreSorted}
 use Rattle.manifest_reader.proofs.attributes.attributes_of.Given as goal
 
 abbrev pub invariant-loop-pair : goal.invariant-loop-pair

@@ -1,4 +1,4 @@
-use Rattle.manifest_reader.proofs.Served.{loaded-served}
+use Rattle.manifest_reader.proofs.ManifestLemmas.{loaded-served}
 use Rattle.manifest_reader.proofs.laws.loaded_manifests_are_served.Goals as goal
 
 pub returns : goal.returns

@@ -4,11 +4,11 @@ use Rattle.file_info.specs.declared.node.NodeName.{NodeName}
 use Rattle.file_info.specs.declared.node.NodeName.TheVariants.{Path, Virtual}
 use Rattle.manifest_reader.specs.declared.makers.Makers.{Makers}
 use Rattle.manifest_reader.specs.Makers.{noted_maker}
-use Rattle.manifest_reader.proofs.New.{new_at_first}
-use Rattle.manifest_reader.proofs.Steps.{position_next}
+use Rattle.manifest_reader.proofs.NewLemmas.{new_at_first}
+use Rattle.manifest_reader.proofs.StepLemmas.{position_next}
 use Rattle.manifest_reader.specs.Places.{is_node, makes}
 use Rattle.manifest_reader.specs.Rules.{all_outputs, differ}
-use Rattle.manifest_reader.proofs.Walk.{outputs_next, outputs_stop, refuses_by}
+use Rattle.manifest_reader.proofs.WalkLemmas.{outputs_next, outputs_stop, refuses_by}
 use Rattle.manifest_reader.proofs.makers.makers_of.Goals as goal
 
 no_makers : (m : Makers) → ((q : List ℕ) → get_by_text m.paths q ≡ None) → ((q : List ℕ) → get_by_text m.virtuals q ≡ None) → (n : NodeName) → noted_maker m n ≡ None

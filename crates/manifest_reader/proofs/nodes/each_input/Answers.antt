@@ -1,7 +1,7 @@
 use Rattle.std.proofs.Common.{◌≡◌, rules, ◌∙◌}
 use Rattle.std.specs.Vec.Iter.{into_iter_items}
 use Rattle.manifest_reader.specs.Nodes.{input_in}
-use Rattle.manifest_reader.proofs.Loops.{begins, goes_next, stops, ends}
+use Rattle.manifest_reader.proofs.LoopLemmas.{begins, goes_next, stops, ends}
 use Rattle.manifest_reader.proofs.nodes.each_input.Goals as goal
 
 pub loop-item-init : goal.loop-item-init

@@ -3,8 +3,8 @@ use Rattle.std.specs.Vec.Iter.{into_iter_items}
 use Rattle.manifest_reader.specs.Nodes.{output_in}
 use Rattle.manifest_reader.specs.Tree.{◌>>=◌}
 use Rattle.manifest_reader.specs.declared.command.Input.{Input}
-use Rattle.manifest_reader.proofs.Walk.{refuses_by}
-use Rattle.manifest_reader.proofs.Loops.{begins, goes_next, stops, ends}
+use Rattle.manifest_reader.proofs.WalkLemmas.{refuses_by}
+use Rattle.manifest_reader.proofs.LoopLemmas.{begins, goes_next, stops, ends}
 use Rattle.manifest_reader.proofs.nodes.each_output.Goals as goal
 
 pub loop-item-init : goal.loop-item-init

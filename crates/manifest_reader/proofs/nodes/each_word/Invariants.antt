@@ -1,6 +1,6 @@
 use Rattle.std.specs.Vec.Iter.{into_iter_items, into_iter_len}
 use Rattle.manifest_reader.specs.Nodes.{word_in}
-use Rattle.manifest_reader.proofs.Loops.{Reads}
+use Rattle.manifest_reader.proofs.LoopLemmas.{Reads}
 use Rattle.manifest_reader.proofs.nodes.each_word.Given as goal
 
 abbrev pub invariant-loop-item : goal.invariant-loop-item

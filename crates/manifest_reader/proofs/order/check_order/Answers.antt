@@ -1,7 +1,7 @@
 use Rattle.std.proofs.Common.{◌≡◌, false, rules, sym, ap, ◌∙◌}
 use Rattle.manifest_reader.specs.Places.{is_node, maker_of}
 use Rattle.manifest_reader.specs.Rules.{all_outputs, are_in_order, differ}
-use Rattle.manifest_reader.proofs.Walk.{order_next, order_stop, refuses_by}
+use Rattle.manifest_reader.proofs.WalkLemmas.{order_next, order_stop, refuses_by}
 use Rattle.manifest_reader.proofs.order.check_order.Goals as goal
 
 pub loop-place-preserved : goal.loop-place-preserved

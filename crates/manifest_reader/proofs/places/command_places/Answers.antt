@@ -1,8 +1,8 @@
 use Rattle.std.proofs.Common.{◌≡◌, false, rules, sym, ap, ◌∙◌}
 use Rattle.std.specs.Prelude.{bytes_eq}
-use Rattle.manifest_reader.proofs.Steps.{position_next}
-use Rattle.manifest_reader.proofs.New.{new_at_first}
-use Rattle.manifest_reader.proofs.Walk.{names_next, names_stop, refuses_by}
+use Rattle.manifest_reader.proofs.StepLemmas.{position_next}
+use Rattle.manifest_reader.proofs.NewLemmas.{new_at_first}
+use Rattle.manifest_reader.proofs.WalkLemmas.{names_next, names_stop, refuses_by}
 use Rattle.manifest_reader.specs.declared.command.Command.{Command}
 use Rattle.manifest_reader.specs.Rules.{command_names, differ}
 use Rattle.indexmap.specs.IndexMap.{get_by_text}

@@ -1,6 +1,6 @@
 use Rattle.std.specs.Vec.Iter.{into_iter_items, into_iter_len}
 use Rattle.manifest_reader.specs.Sections.{target_in}
-use Rattle.manifest_reader.proofs.Loops.{Reads}
+use Rattle.manifest_reader.proofs.LoopLemmas.{Reads}
 use Rattle.manifest_reader.proofs.sections.each_target.Given as goal
 
 abbrev pub invariant-loop-pair : goal.invariant-loop-pair

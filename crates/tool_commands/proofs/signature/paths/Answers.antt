@@ -1,5 +1,5 @@
 use Rattle.std.proofs.Common.{◌∙◌}
-use Rattle.tool_commands.proofs.Spelling.{path_taken, virtual_left}
+use Rattle.tool_commands.proofs.SignatureLemmas.{path_taken, virtual_left}
 use Rattle.tool_commands.proofs.signature.paths.Goals as goal
 use Rattle.tool_commands.proofs.signature.paths.Goals.{in-Path+in_ok-copy-in-Path+in_ok-push-in-Path, in-Virtual}
 

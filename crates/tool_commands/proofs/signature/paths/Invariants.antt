@@ -1,5 +1,5 @@
 use Rattle.std.proofs.Common.{◌≡◌, take}
-use Rattle.outside.specs.Formed.{paths_of}
+use Rattle.outside.specs.OrderForm.{paths_of}
 use Rattle.tool_commands.proofs.signature.paths.Given as goal
 
 abbrev pub invariant-loop-node : goal.invariant-loop-node

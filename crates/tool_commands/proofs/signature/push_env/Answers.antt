@@ -1,7 +1,7 @@
 use Rattle.outside.specs.Meaning.{env_bytes}
 use Rattle.manifest_reader.specs.declared.command.EnvPair.{EnvPair}
 use Rattle.build_meaning.specs.Commands.{variable_of}
-use Rattle.tool_commands.proofs.Spelling.{pushed_more, pushed_all, pushed_both}
+use Rattle.tool_commands.proofs.SignatureLemmas.{pushed_more, pushed_all, pushed_both}
 use Rattle.tool_commands.proofs.signature.push_env.Goals as goal
 
 pub loop-pair-preserved : goal.loop-pair-preserved

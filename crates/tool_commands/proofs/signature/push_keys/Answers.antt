@@ -1,7 +1,7 @@
 use Rattle.outside.specs.Meaning.{key_bytes}
 use Rattle.manifest_reader.specs.declared.command.Input.{Input}
 use Rattle.build_meaning.specs.Commands.{key_of}
-use Rattle.tool_commands.proofs.Spelling.{pushed_more, pushed_all}
+use Rattle.tool_commands.proofs.SignatureLemmas.{pushed_more, pushed_all}
 use Rattle.tool_commands.proofs.signature.push_keys.Goals as goal
 
 pub loop-input-preserved : goal.loop-input-preserved

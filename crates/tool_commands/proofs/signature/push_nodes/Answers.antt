@@ -1,5 +1,5 @@
 use Rattle.outside.specs.Spelled.{node_bytes}
-use Rattle.tool_commands.proofs.Spelling.{pushed_more}
+use Rattle.tool_commands.proofs.SignatureLemmas.{pushed_more}
 use Rattle.tool_commands.proofs.signature.push_nodes.Goals as goal
 
 pub loop-node-preserved : goal.loop-node-preserved

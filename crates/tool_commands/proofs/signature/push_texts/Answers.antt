@@ -1,6 +1,6 @@
 use Rattle.std.proofs.Common.{◌++◌, ◌∙◌, ap}
 use Rattle.outside.specs.Spelled.{text_bytes}
-use Rattle.tool_commands.proofs.Spelling.{pushed_more}
+use Rattle.tool_commands.proofs.SignatureLemmas.{pushed_more}
 use Rattle.tool_commands.proofs.signature.push_texts.Goals as goal
 
 pub loop-text-preserved : goal.loop-text-preserved

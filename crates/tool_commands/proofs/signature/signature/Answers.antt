@@ -1,5 +1,5 @@
 use Rattle.std.proofs.Common.{◌∙◌}
-use Rattle.tool_commands.proofs.Spelling.{pushed_parts, pushed_front}
+use Rattle.tool_commands.proofs.SignatureLemmas.{pushed_parts, pushed_front}
 use Rattle.tool_commands.proofs.signature.signature.Goals as goal
 
 pub returns : goal.returns

@@ -1,4 +1,4 @@
-use Rattle.tool_commands.proofs.Spelling.{variables_more}
+use Rattle.tool_commands.proofs.SignatureLemmas.{variables_more}
 use Rattle.tool_commands.proofs.signature.variables.Goals as goal
 
 pub loop-pair-preserved : goal.loop-pair-preserved

@@ -1,7 +1,7 @@
 use Rattle.std.proofs.Common.{length, arith}
 use Rattle.std.proofs.lemmas.Grind.{common_steps}
 use Rattle.yaml_profile.specs.Block.{entries, dashes}
-use Rattle.yaml_profile.proofs.Turns.{next_turn}
+use Rattle.yaml_profile.proofs.TurnLemmas.{next_turn}
 use Rattle.yaml_profile.proofs.block.+block.Goals as goal
 
 pub dashes-turns-preserved : goal.dashes-turns-preserved

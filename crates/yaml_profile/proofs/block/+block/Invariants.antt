@@ -1,7 +1,7 @@
 use Rattle.std.proofs.Common.{◌+◌, ◌*◌, ◌≤◌, length}
 use Rattle.std.specs.Prelude.{IsTrue}
 use Rattle.yaml_profile.specs.Block.{block, is_dash, entries, mapping, dashes, sequence}
-use Rattle.yaml_profile.proofs.Turns.{Turns}
+use Rattle.yaml_profile.proofs.TurnLemmas.{Turns}
 use Rattle.yaml_profile.proofs.block.+block.Given as goal
 
 abbrev pub decreases-block : goal.decreases-block

@@ -1,7 +1,7 @@
 use Rattle.std.proofs.Common.{length, arith}
 use Rattle.std.proofs.lemmas.Grind.{common_steps}
 use Rattle.yaml_profile.specs.Scalar.{double}
-use Rattle.yaml_profile.proofs.Turns.{next_turn}
+use Rattle.yaml_profile.proofs.TurnLemmas.{next_turn}
 use Rattle.yaml_profile.proofs.escape.double.Goals as goal
 
 pub loop-rest-preserved-in-92 : goal.loop-rest-preserved-in-92

@@ -1,6 +1,6 @@
 use Rattle.std.proofs.Common.{◌≤◌, length}
 use Rattle.yaml_profile.specs.Scalar.{double, double_quoted}
-use Rattle.yaml_profile.proofs.Turns.{Turns}
+use Rattle.yaml_profile.proofs.TurnLemmas.{Turns}
 use Rattle.yaml_profile.proofs.escape.double.Given as goal
 
 abbrev pub invariant-loop-rest : goal.invariant-loop-rest

@@ -1,7 +1,7 @@
 use Rattle.std.proofs.Common.{◌≡◌, suc, ◌+◌, ◌-◌, arith}
 use Rattle.std.proofs.lemmas.Grind.{common_steps}
 use Rattle.yaml_profile.specs.Scalar.{hex}
-use Rattle.yaml_profile.proofs.Powers.{power_more, power_small}
+use Rattle.yaml_profile.proofs.PowerLemmas.{power_more, power_small}
 use Rattle.yaml_profile.proofs.escape.hex.Goals as goal
 
 pub overflow_mul-number : goal.overflow_mul-number

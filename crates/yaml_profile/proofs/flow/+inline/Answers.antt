@@ -1,7 +1,7 @@
 use Rattle.std.proofs.Common.{length, arith}
 use Rattle.std.proofs.lemmas.Grind.{common_steps}
 use Rattle.yaml_profile.specs.Flow.{items, pairs}
-use Rattle.yaml_profile.proofs.Turns.{next_turn}
+use Rattle.yaml_profile.proofs.TurnLemmas.{next_turn}
 use Rattle.yaml_profile.proofs.flow.+inline.Goals as goal
 
 pub sequence-turns-preserved : goal.sequence-turns-preserved

@@ -1,6 +1,6 @@
 use Rattle.std.proofs.Common.{◌+◌, ◌*◌, ◌≤◌, true, length}
 use Rattle.yaml_profile.specs.Flow.{inline, items, sequence, pairs, mapping}
-use Rattle.yaml_profile.proofs.Turns.{Turns}
+use Rattle.yaml_profile.proofs.TurnLemmas.{Turns}
 use Rattle.yaml_profile.proofs.flow.+inline.Given as goal
 
 abbrev pub decreases-inline : goal.decreases-inline

@@ -3,8 +3,8 @@ use Rattle.yaml_profile.specs.declared.error.YamlError.{YamlError}
 use Rattle.yaml_profile.specs.declared.yaml.Yaml.{Yaml}
 use Rattle.yaml_profile.specs.Block.{document}
 use Rattle.yaml_profile.specs.Read.{error_at, placed}
-use Rattle.yaml_profile.proofs.Answer.{too_long, not_utf8, placed_text}
-use Rattle.yaml_profile.proofs.Documents.{tree_fine}
+use Rattle.yaml_profile.proofs.ReadLemmas.{too_long, not_utf8, placed_text}
+use Rattle.yaml_profile.proofs.DocumentLemmas.{tree_fine}
 use Rattle.yaml_profile.proofs.reader.read.Goals as goal
 
 pub returns-then-bytes-gt-TEXT_MAX-clause-refused :

@@ -3,8 +3,8 @@ use Rattle.std.specs.Prelude.{Some}
 use Rattle.std.specs.HashMap.{get_by_text}
 use Rattle.file_info.specs.declared.info.Info.{Info}
 use Rattle.llbuild_cli.specs.Journal.{Journal, Knows, IsUnknown}
-use Rattle.llbuild_cli.specs.Shows.{Shows}
-use Rattle.llbuild_cli.proofs.Journals.{copied_some, copied_none}
+use Rattle.llbuild_cli.specs.Sight.{Shows}
+use Rattle.llbuild_cli.proofs.JournalLemmas.{copied_some, copied_none}
 use Rattle.llbuild_cli.proofs.seen.Seen.info.Goals as goal
 
 pub returns-clause-known : goal.returns-clause-known

@@ -3,7 +3,7 @@ use Rattle.std.specs.HashMap.{get_by_text}
 use Rattle.llbuild_cli.specs.declared.report.Heard.{Heard}
 use Rattle.llbuild_cli.specs.declared.report.Outcome.TheVariants.{Done}
 use Rattle.llbuild_cli.specs.Journal.{Journal, Knows, IsIndex}
-use Rattle.llbuild_cli.proofs.Journals.{index_same, index_done, once_index, with_agrees, with_noted}
+use Rattle.llbuild_cli.proofs.JournalLemmas.{index_same, index_done, once_index, with_agrees, with_noted}
 use Rattle.llbuild_cli.proofs.seen.Seen.note_done.Goals as goal
 
 pub invariant_of-self : goal.invariant_of-self

@@ -1,6 +1,6 @@
 use Rattle.std.proofs.Common.{ℕ, List}
 use Rattle.std.specs.HashMap.{get_by_text}
-use Rattle.llbuild_cli.proofs.Journals.{index_try_failed, once_index, on_ok}
+use Rattle.llbuild_cli.proofs.JournalLemmas.{index_try_failed, once_index, on_ok}
 use Rattle.llbuild_cli.proofs.seen.Seen.note_failed.Goals as goal
 
 pub invariant_of-self : goal.invariant_of-self

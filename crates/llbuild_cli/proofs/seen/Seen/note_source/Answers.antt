@@ -2,8 +2,8 @@ use Rattle.std.proofs.Common.{rules, ◌≡◌, ◌++◌, ◌∷◌, [], ℕ, Li
 use Rattle.std.specs.HashMap.{get_by_text}
 use Rattle.file_info.specs.declared.info.Info.{Info}
 use Rattle.llbuild_cli.specs.Journal.{Journal, Knows}
-use Rattle.llbuild_cli.specs.Noted.{Noted}
-use Rattle.llbuild_cli.proofs.Journals.{index_source, index_same, index_items, once_index}
+use Rattle.llbuild_cli.specs.Index.{Noted}
+use Rattle.llbuild_cli.proofs.JournalLemmas.{index_source, index_same, index_items, once_index}
 use Rattle.llbuild_cli.proofs.seen.Seen.note_source.Goals as goal
 
 pub invariant_of-self : goal.invariant_of-self

@@ -1,6 +1,6 @@
 use Rattle.std.proofs.Common.{Some, ap, sym, ◌∙◌, refl}
 use Rattle.manifest_reader.specs.Attributes.{attribute_named}
-use Rattle.manifest_reader.proofs.Sorted.{takes_tool, takes_inputs, takes_outputs, takes_args, refuses_tool, refuses_inputs, refuses_outputs, refuses_args, unnamed}
+use Rattle.manifest_reader.proofs.SortLemmas.{takes_tool, takes_inputs, takes_outputs, takes_args, refuses_tool, refuses_inputs, refuses_outputs, refuses_args, unnamed}
 use Rattle.manifest_reader.proofs.attributes.Attributes.take.Goals as goal
 
 pub returns-in-Some-Tool-clause-taken : goal.returns-in-Some-Tool-clause-taken

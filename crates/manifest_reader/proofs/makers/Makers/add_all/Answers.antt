@@ -3,8 +3,8 @@ use Rattle.std.specs.List.{list_any}
 use Rattle.std.specs.Option.{option_or}
 use Rattle.manifest_reader.specs.Places.{is_node}
 use Rattle.manifest_reader.specs.Makers.{noted_maker}
-use Rattle.manifest_reader.proofs.Steps.{list_any_next, option_or_cond}
-use Rattle.manifest_reader.proofs.Walk.{nodes_next}
+use Rattle.manifest_reader.proofs.StepLemmas.{list_any_next, option_or_cond}
+use Rattle.manifest_reader.proofs.WalkLemmas.{nodes_next}
 use Rattle.manifest_reader.proofs.makers.Makers.add_all.Goals as goal
 
 pub loop-node-preserved : goal.loop-node-preserved

@@ -1,6 +1,6 @@
 use Rattle.std.proofs.Common.{◌∙◌, ◌<◌, length, IfSome}
 use Rattle.std.specs.Str.{bytes_eq}
-use Rattle.manifest_reader.proofs.Steps.{position_within}
+use Rattle.manifest_reader.proofs.StepLemmas.{position_within}
 use Rattle.manifest_reader.specs.declared.command.Command.{Command}
 use Rattle.manifest_reader.proofs.manifest.Manifest.command_named.Goals as goal
 

@@ -5,7 +5,7 @@ use Rattle.std.specs.Str.{bytes_eq}
 use Rattle.std.proofs.lemmas.Map.Text.{hash_map_updates_text}
 use Rattle.memory_world.specs.declared.write.Write.{Write}
 use Rattle.memory_world.specs.Log.{IsIndexed, put}
-use Rattle.memory_world.proofs.Places.{indexed-put, of-ok}
+use Rattle.memory_world.proofs.PlaceLemmas.{indexed-put, of-ok}
 use Rattle.memory_world.proofs.files.Files.add.Goals as goal
 
 pub invariant_of-self : goal.invariant_of-self

@@ -1,4 +1,4 @@
-use Rattle.memory_world.proofs.Places.{indexed-same, text-kept}
+use Rattle.memory_world.proofs.PlaceLemmas.{indexed-same, text-kept}
 use Rattle.memory_world.proofs.files.Files.reserve.Goals as goal
 
 pub invariant_of-self-2 : goal.invariant_of-self-2

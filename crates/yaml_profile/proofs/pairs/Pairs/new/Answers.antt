@@ -1,4 +1,4 @@
-use Rattle.yaml_profile.proofs.Names.{none_named}
+use Rattle.yaml_profile.proofs.NameLemmas.{none_named}
 use Rattle.yaml_profile.proofs.pairs.Pairs.new.Goals as goal
 
 pub invariant_of-result : goal.invariant_of-result

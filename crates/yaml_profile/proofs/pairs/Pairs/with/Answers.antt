@@ -1,6 +1,6 @@
 use Rattle.std.proofs.Common.{◌++◌, [], ◌∷◌, subst, rules}
 use Rattle.yaml_profile.specs.Mapping.{pair, AreNames}
-use Rattle.yaml_profile.proofs.Names.{one_more}
+use Rattle.yaml_profile.proofs.NameLemmas.{one_more}
 use Rattle.yaml_profile.proofs.pairs.Pairs.with.Goals as goal
 
 pub invariant_of-result : goal.invariant_of-result

@@ -1,0 +1,180 @@
+-- What is said of runs, of files in memory without a premise.
+use Rattle.std.proofs.Common.{◌≡◌, ◌++◌, [], ℕ, List, length, refl, sym, ◌∙◌, ap, subst, inl, inr}
+use Rattle.std.specs.Prelude.{Option, Some, None, Result, Ok, Err}
+use Rattle.file_info.specs.Content.{Content, Absent, FileVersion, content, node_text}
+use Rattle.file_info.specs.Lists.{In}
+use Rattle.file_info.specs.declared.info.Info.{Info}
+use Rattle.file_info.specs.declared.info.Form.TheVariants.{Follow}
+use Rattle.outside.specs.declared.disk.FileBytes.{FileBytes}
+use Rattle.outside.specs.declared.disk.FileBytes.TheVariants.{Missing, NotFile, TooLong, Bytes}
+use Rattle.outside.specs.declared.order.Exit.{Exit}
+use Rattle.outside.specs.declared.order.Order.{Order}
+use Rattle.outside.specs.declared.world.NoFault.{NoFault}
+use Rattle.outside.specs.FileRead.{bytes_of}
+use Rattle.outside.specs.View.{DiskView, SinkView, Grew}
+use Rattle.memory_world.specs.declared.write.Write.{Write}
+use Rattle.memory_world.specs.Log.{last_of, info_of, content_of, standing, Tells}
+use Rattle.memory_world.specs.Memory.{Memory, map_of, view_of}
+use Rattle.memory_world.specs.Sinks.{Written}
+use Rattle.memory_world.specs.Toy.{ToyDoes, toy-function}
+use Rattle.memory_world.proofs.LogLemmas.{standing-told, last-in}
+use Rattle.manifest_reader.specs.declared.command.Command.{Command}
+use Rattle.manifest_reader.specs.declared.command.Input.{Input}
+use Rattle.manifest_reader.specs.declared.command.TargetEntry.{TargetEntry}
+use Rattle.manifest_reader.specs.declared.error.LoadError.{LoadError}
+use Rattle.manifest_reader.specs.Load.{loaded}
+use Rattle.manifest_reader.specs.Manifest.{ManifestLists}
+use Rattle.manifest_reader.specs.Places.{target_named}
+use Rattle.manifest_reader.proofs.ManifestLemmas.{loaded-served}
+use Rattle.build_meaning.specs.Fresh.{Does, Sights, IsMade, Fresh, source, made}
+use Rattle.build_meaning.specs.Unique.{HasOneMaker, SawOnce}
+use Rattle.build_meaning.proofs.PlaceLemmas.{In-map, In-map-back}
+use Rattle.build_meaning.proofs.OrderlyLemmas.{orderly}
+use Rattle.build_meaning.proofs.FreshLemmas.{IsDetermined, Fresh-unique}
+use Rattle.llbuild_cli.specs.declared.refusal.Refusal.{Refusal}
+use Rattle.llbuild_cli.specs.declared.refusal.Refusal.TheVariants as refusals
+use Rattle.llbuild_cli.specs.declared.report.End.TheVariants as ends
+use Rattle.llbuild_cli.specs.declared.report.Report.{Report}
+use Rattle.llbuild_cli.specs.declared.stop.Stop.{Stop}
+use Rattle.llbuild_cli.specs.declared.stop.Stop.TheVariants as stops
+use Rattle.llbuild_cli.specs.declared.words.Job.{Job}
+use Rattle.llbuild_cli.specs.InMemory.{FreshInMemory, FreshOf, files_of, seen_in}
+use Rattle.llbuild_cli.specs.Plan.{Gave, Plan, plan_of, plan_loaded, plan_named, manifest_max, refused_end}
+use Rattle.llbuild_cli.specs.Run.{Planned, Served, Wrote, answers_of, run_of}
+use Rattle.llbuild_cli.specs.Sight.{sights_of}
+use Rattle.llbuild_cli.specs.Stop.{end_of, end_after}
+use Rattle.llbuild_cli.specs.Text.{lines_of, summary_text}
+use Rattle.llbuild_cli.proofs.InputLemmas.{is_missing}
+
+-- each source that is there was seen with the same content by another map
+abbrev SeesSame : List Command → List FileVersion → Sights → List FileVersion → Sights → Type 0
+SeesSame cs m seen n sees = (q : List ℕ) (i : Info) → (IsMade cs q → ⊥) → In (q, i) seen → (content m q i ≡ Absent → ⊥)
+    → (j : Info) × (In (q, j) sees × (content m q i ≡ content n q j))
+
+-- a fresh content that is there is fresh where the same is seen
+pub Fresh-on : {does : Does} {m n : List FileVersion} {cs : List Command} {seen sees : Sights} {p : List ℕ} {x : Content} → SeesSame cs m seen n sees
+    → (x ≡ Absent → ⊥) → Fresh does m cs seen p x → Fresh does n cs sees p x
+Fresh-on same here (source {p} i free at is) = (let (j, k) = same p i free at (λ none. here (is ∙ none)) in source j free k.0 (is ∙ k.1))
+Fresh-on same here (made c d o k ic names there fresh done at is) =
+    made c d o k ic names there (λ q y h. Fresh-on same (there q y h) (fresh q y h)) done at is
+
+-- a path that is not absent is one of the files
+file_in : (ws : List Write) (p : List ℕ) → (standing ws p Follow ≡ Absent → ⊥) → In (p, info_of (last_of ws p) Follow) (files_of ws)
+file_in ws p here = go (last_of ws p) refl here
+  where
+    go : (o : Option Write) → last_of ws p ≡ o → (content_of o Follow ≡ Absent → ⊥) → In (p, info_of (last_of ws p) Follow) (files_of ws)
+    go None e h = absurd (h refl)
+    go (Some w) e h =
+        let (i, same) = last-in ws p w e in
+        subst (λ (q : List ℕ). In (q, info_of (last_of ws q) Follow) (files_of ws)) same (In-map (λ (z : Write). (z.path, info_of (last_of ws z.path) Follow)) w ws i)
+
+-- what stands is the one information of a file
+file_at : (ws : List Write) (p : List ℕ) (i : Info) → In (p, i) (files_of ws) → i ≡ info_of (last_of ws p) Follow
+file_at ws p i h =
+    let (w, at, e) = In-map-back (λ (z : Write). (z.path, info_of (last_of ws z.path) Follow)) (p, i) ws h in
+    ap (λ (z : List ℕ × Info). z.1) e ∙ ap (λ (q : List ℕ). info_of (last_of ws q) Follow) (sym (ap (λ (z : List ℕ × Info). z.0) e))
+
+files_once : (ws : List Write) → SawOnce (files_of ws)
+files_once ws p i j a b = file_at ws p i a ∙ sym (file_at ws p j b)
+
+toy_determined : IsDetermined ToyDoes
+toy_determined s d o q a b = (toy-function s d [] [] o q a b (λ p x y h. absurd h)).1
+
+-- a plan's commands make each path once
+plan_loads : (job : Job) (answer : FileBytes) (plan : Plan) → plan_of job answer ≡ Ok plan → (bytes : List ℕ) × (loaded bytes ≡ Ok plan.manifest)
+plan_loads job Missing plan e = cc e
+plan_loads job NotFile plan e = cc e
+plan_loads job TooLong plan e = cc e
+plan_loads job (Bytes bytes) plan e = load (loaded bytes) refl e
+  where
+    name : (manifest : ManifestLists) (o : Option TargetEntry) → plan_named manifest job.target o ≡ Ok plan → manifest ≡ plan.manifest
+    name manifest None f = cc f
+    name manifest (Some target) f = (let same : record { manifest = manifest; target = target } ≡ plan = cc f in ap (λ (z : Plan). z.manifest) same)
+
+    load : (r : Result ManifestLists LoadError) → loaded bytes ≡ r → plan_loaded job.target r ≡ Ok plan → (b : List ℕ) × (loaded b ≡ Ok plan.manifest)
+    load (Err error) is f = cc f
+    load (Ok manifest) is f = (bytes, is ∙ ap Ok (name manifest (target_named manifest.targets job.target) f))
+
+one_maker : (job : Job) (answer : FileBytes) (plan : Plan) → plan_of job answer ≡ Ok plan → HasOneMaker plan.manifest.commands
+one_maker job answer plan e = (let (bytes, is) = plan_loads job answer plan e in (orderly plan.manifest (loaded-served bytes plan.manifest is)).makers)
+
+-- what is seen of a run that left these files, and its end
+abbrev pub PlannedOn : Gave → (DiskView → Order → Exit → Type 0) → Memory → Memory → SinkView → SinkView → Report NoFault → List (List ℕ) → Type 0
+PlannedOn gave ended old new out out' report words = Planned (answers_of ToyDoes ended gave) (run_of (view_of old) (view_of new) out out' report) words
+
+pub fresh_planned : (gave : Gave) (ended : DiskView → Order → Exit → Type 0) (old new : Memory) (out out' : SinkView) (report : Report NoFault) (words : List (List ℕ))
+    → Tells old.writes (map_of old.writes) → Tells new.writes (map_of new.writes) → report.end ≡ ends.Ok → PlannedOn gave ended old new out out' report words
+    → FreshInMemory old.writes new.writes words
+fresh_planned gave ended old new out out' report words told tells ok p =
+    let n = map_of old.writes in
+    let m = map_of new.writes in
+    let plan = p.plan in
+    let cs = plan.manifest.commands in
+    let keeps : Tells old.writes m = p.did.apart.keeps.contents m tells in
+    let after = λ (q : List ℕ). standing-told new.writes m tells q Follow in
+    let before = λ (q : List ℕ). standing-told old.writes m keeps q Follow in
+    let entry = λ (q : List ℕ). standing-told old.writes n told q Follow in
+    let file : p.is.asked.answer ≡ bytes_of manifest_max (standing old.writes p.is.asked.job.file Follow) =
+    p.is.asked.read.is m tells ∙ ap (bytes_of manifest_max) (before p.is.asked.job.file) in
+    let stood = λ (q : List ℕ) (i : Info) (free : IsMade cs q → ⊥) (at : In (q, i) (sights_of report.stats)).
+    sym (p.did.stood tt q i (inl at)) ∙ p.did.apart.same tt q Follow (λ w. free (record { by = w.0; named = w.1.0; output = w.1.1.1 })) in
+    let same : SeesSame cs m (sights_of report.stats) n (files_of old.writes) =
+    λ q i free at here.
+    let is : i ≡ info_of (last_of old.writes q) Follow = stood q i free at in
+    let content_is : content m q i ≡ standing old.writes q Follow = ap (content m q) is ∙ before q in
+    (info_of (last_of old.writes q) Follow, (file_in old.writes q (λ none. here (content_is ∙ none)), content_is ∙ sym (entry q))) in
+    let all = p.did.fresh ok m tells in
+    let there = λ (i : Input) (h : In i plan.target.nodes) (none : standing new.writes (node_text i.node) Follow ≡ Absent).
+    all.there i h (is_missing m (node_text i.node) _ (after (node_text i.node) ∙ none)) in
+    record {
+      job = p.is.asked.job;
+      asked = p.is.asked.is;
+      plan = plan;
+      is = ap (plan_of p.is.asked.job) (sym file) ∙ p.is.is;
+      fresh = λ i h x.
+          let path = node_text i.node in
+          let exit = standing new.writes path Follow in
+          let fresh : Fresh ToyDoes n cs (files_of old.writes) path exit =
+          Fresh-on same (there i h) (subst (λ (z : Content). Fresh ToyDoes m cs (sights_of report.stats) path z) (after path) (all.fresh i h)) in (
+            (λ other. Fresh-unique toy_determined (one_maker p.is.asked.job p.is.asked.answer plan p.is.is) (files_once old.writes) other exit fresh),
+            (λ e. subst (λ (z : Content). FreshOf old.writes plan path z) (sym e) fresh),
+          );
+      there = there;
+    }
+
+refused_not_ok : (r : Refusal) → refused_end {F = NoFault} r ≡ ends.Ok → ⊥
+refused_not_ok (refusals.Usage fault) e = cc e
+refused_not_ok (refusals.NoFile path) e = cc e
+refused_not_ok (refusals.Manifest error) e = cc e
+refused_not_ok (refusals.UnknownTarget name) e = cc e
+refused_not_ok refusals.DiskFault e = cc e
+refused_not_ok refusals.NoMemory e = cc e
+
+stop_not_ok : (stop : Stop) → end_of {F = NoFault} stop ≡ ends.Ok → ⊥
+stop_not_ok (stops.CommandFailed command exit) e = cc e
+stop_not_ok (stops.MissingInput asker node) e = cc e
+stop_not_ok stops.DiskFault e = cc e
+stop_not_ok stops.SinkFault e = cc e
+stop_not_ok stops.NoMemory e = cc e
+
+-- a run that ended so was planned
+pub planned_ok : (gave : Gave) (ended : DiskView → Order → Exit → Type 0) (old new : Memory) (out out' : SinkView) (report : Report NoFault) (words : List (List ℕ))
+    → report.end ≡ ends.Ok → Served (answers_of ToyDoes ended gave) (run_of (view_of old) (view_of new) out out' report) words → PlannedOn gave ended old new out out' report words
+planned_ok gave ended old new out out' report words ok s = elim s.course [ inl d ↦ absurd (refused_not_ok d.refusal (sym d.ends ∙ ok)) | inr p ↦ p ]
+
+grew_in_memory : (old new : Written) (piece : List ℕ) → Grew (seen_in old) (seen_in new) piece → new.items ≡ old.items ++ piece
+grew_in_memory old new piece grew =
+    let (a, was, is) = grew new.items refl in
+    let same : old.items ≡ a = cc was in
+    is ∙ ap (λ (b : List ℕ). b ++ piece) (sym same)
+
+-- at success all lines and the summary were written
+pub wrote_planned : (gave : Gave) (ended : DiskView → Order → Exit → Type 0) (old new : Memory) (out out' : Written) (report : Report NoFault) (words : List (List ℕ))
+    → report.end ≡ ends.Ok → PlannedOn gave ended old new (seen_in out) (seen_in out') report words
+    → out'.items ≡ out.items ++ (lines_of report.starts ++ summary_text (length report.starts))
+wrote_planned gave ended old new out out' report words ok p = go p.result p.ends p.did.wrote
+  where
+    go : (r : Result (Unit {0}) Stop) → report.end ≡ end_after r → Wrote (run_of (view_of old) (view_of new) (seen_in out) (seen_in out') report) p.plan r
+        → out'.items ≡ out.items ++ (lines_of report.starts ++ summary_text (length report.starts))
+    go (Ok done) e wrote = grew_in_memory out out' (lines_of report.starts ++ summary_text (length report.starts)) wrote
+    go (Err stop) e wrote = absurd (stop_not_ok stop (sym e ∙ ok))

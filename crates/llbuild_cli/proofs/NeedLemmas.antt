@@ -1,0 +1,85 @@
+-- What the rules of a manifest and its marks say of a command at its place.
+use Rattle.std.proofs.Common.{◌≡◌, ◌⊎◌, ◌<◌, ◌≤◌, ℕ, zero, suc, ◌+◌, Bool, true, List, [], ◌∷◌, map, length, drop, sym, ◌∙◌, ap, inl, inr, subst, arith, suc-add, zero-add}
+use Rattle.std.specs.Prelude.{slice_get, Some}
+use Rattle.file_info.specs.Content.{node_text}
+use Rattle.file_info.specs.Lists.{In}
+use Rattle.file_info.specs.declared.info.Info.{Info}
+use Rattle.file_info.specs.declared.node.NodeName.TheVariants.{Path}
+use Rattle.manifest_reader.specs.declared.command.Command.{Command}
+use Rattle.manifest_reader.specs.declared.command.Input.{Input}
+use Rattle.manifest_reader.specs.FileManifest.{IsFileInput}
+use Rattle.outside.specs.OrderForm.{paths_of}
+use Rattle.build_meaning.specs.Fresh.{Does, IsMade}
+use Rattle.build_meaning.specs.Need.{IsNeeded, wants, needs, AreMarks}
+use Rattle.build_meaning.specs.Orderly.{AreOrderly}
+use Rattle.build_meaning.proofs.PlaceLemmas.{get-less, In-index, In-get, get-map}
+use Rattle.build_meaning.proofs.OrderlyLemmas.{made_path, one_place}
+use Rattle.llbuild_cli.specs.CommandRun.{IsInput, IsOutput}
+use Rattle.llbuild_cli.specs.Stands.{Stands}
+use Rattle.llbuild_cli.proofs.StandsLemmas.{In-drop, In-later}
+use Rattle.outside.specs.View.{DiskView}
+use Rattle.llbuild_cli.specs.Journal.{Journal, Knows, IsUnknown}
+
+pub get-drop : {A : Type 0} (xs : List A) (n j : ℕ) (x : A) → slice_get (drop n xs) j ≡ Some x → slice_get xs (n + j) ≡ Some x
+get-drop xs zero j x e = rw zero-add e
+get-drop [] (suc n) j x e = cc e
+get-drop (y ∷ ys) (suc n) j x e = rw suc-add (get-drop ys n j x e)
+
+pub less_or_not : (k n : ℕ) → (k < n) ⊎ (n ≤ k)
+less_or_not k zero = inr (omega arith)
+less_or_not zero (suc n) = inl (omega arith)
+less_or_not (suc k) (suc n) = elim (less_or_not k n) [ inl l ↦ inl (omega arith) | inr l ↦ inr (omega arith) ]
+
+-- an output of the command at a place is made by no later one
+pub made_once : (commands : List Command) (place : ℕ) (c : Command) (p : List ℕ) → AreOrderly commands → slice_get commands place ≡ Some c → IsOutput c p
+    → IsMade (drop (place + 1) commands) p → ⊥
+made_once commands place c p orderly at_place o h =
+    let (k, at_k) = In-index p (paths_of c.outputs) o in
+    let (l, at_l) = In-index p (paths_of h.by.outputs) h.output in
+    let same : c ≡ h.by = (orderly.makers c h.by k l p (In-get commands place c at_place) (In-drop h.by (place + 1) commands h.named) at_k at_l).0 in
+    let (j, at_j) = In-index h.by (drop (place + 1) commands) h.named in
+    let later : slice_get commands (place + 1 + j) ≡ Some h.by = get-drop commands (place + 1) j h.by at_j in
+    let name = λ (d : Command). d.name in
+    let first : slice_get (map name commands) place ≡ Some h.by.name = get-map name commands place c at_place ∙ ap (λ (d : Command). Some d.name) same in
+    let second : slice_get (map name commands) (place + 1 + j) ≡ Some h.by.name = get-map name commands (place + 1 + j) h.by later in
+    let places : place ≡ place + 1 + j = one_place (map name commands) place (place + 1 + j) h.by.name orderly.names first second in
+    absurd (omega arith)
+
+-- what is made of the inputs of a needed command was made before it
+pub inputs_settled : {does : Does} {commands : List Command} {marks : List Bool} {place : ℕ} {w : DiskView} {a : Journal}
+    (wanted : List Input) → AreOrderly commands → AreMarks commands wanted marks → Stands does commands marks place w a
+    → (c : Command) → slice_get commands place ≡ Some c → slice_get marks place ≡ Some true → ((i : Input) → In i c.inputs → IsFileInput i)
+    → (p : List ℕ) → IsInput c.inputs p → IsMade commands p → (i : Info) × Knows a p i
+inputs_settled {commands} {marks} {place} wanted orderly are old c at_place marked files p is h =
+    let i = is.0 in
+    let file = files i is.1.0 in
+    let node : i.node ≡ Path p = file.node.is ∙ ap Path (sym (is.1.1 ∙ ap node_text file.node.is)) in
+    let (j, at_j) = In-index h.by commands h.named in
+    let output : In i.node h.by.outputs = subst (λ (n : _). In n h.by.outputs) (sym node) (made_path h.by p h.output) in
+    let maker : IsNeeded commands wanted h.by = needs c i h.named ((are.each place c at_place).0 marked) is.1.0 output in
+    let marked_j = (are.each j h.by at_j).1 maker in
+    elim (less_or_not j place) [
+      | inl l ↦ old.done j h.by p l marked_j at_j h.output
+      | inr l ↦ absurd (orderly.inputs place c i at_place is.1.0
+          (subst (λ (q : List ℕ). IsMade (drop place commands) q) is.1.1 (record { by = h.by; named = In-later commands place j h.by at_j l; output = h.output })))
+    ]
+
+-- what is made of the nodes of the target was made
+pub nodes_settled : {does : Does} {commands : List Command} {marks : List Bool} {w : DiskView} {a : Journal}
+    (wanted : List Input) → AreMarks commands wanted marks → Stands does commands marks (length commands) w a
+    → ((i : Input) → In i wanted → IsFileInput i)
+    → (p : List ℕ) → IsInput wanted p → IsMade commands p → (i : Info) × Knows a p i
+nodes_settled {commands} {marks} wanted are old files p is h =
+    let i = is.0 in
+    let file = files i is.1.0 in
+    let node : i.node ≡ Path p = file.node.is ∙ ap Path (sym (is.1.1 ∙ ap node_text file.node.is)) in
+    let (j, at_j) = In-index h.by commands h.named in
+    let output : In i.node h.by.outputs = subst (λ (n : _). In n h.by.outputs) (sym node) (made_path h.by p h.output) in
+    let maker : IsNeeded commands wanted h.by = wants i h.named is.1.0 output in
+    old.done j h.by p (get-less commands j h.by at_j) ((are.each j h.by at_j).1 maker) at_j h.output
+
+-- the outputs of a command were not seen before it ran
+pub outputs_unseen : {does : Does} {commands : List Command} {marks : List Bool} {place : ℕ} {w : DiskView} {a : Journal}
+    → Stands does commands marks place w a → (c : Command) → slice_get commands place ≡ Some c → (p : List ℕ) → IsOutput c p → IsUnknown a p
+outputs_unseen {commands} {place} {a} old c at_place p o i k =
+    old.later p i k (record { by = c; named = In-later commands place place c at_place (omega arith); output = o })

@@ -1,0 +1,139 @@
+-- What one order does.
+use Rattle.std.proofs.Common.{◌≡◌, ℕ, List, [], ◌∷◌, ◌++◌, map, refl, sym, ◌∙◌, ap, inl, inr, subst}
+use Rattle.std.specs.Prelude.{false, true}
+use Rattle.file_info.specs.Content.{Content, FileVersion, content, node_text, read_contents}
+use Rattle.file_info.specs.Lists.{In}
+use Rattle.file_info.specs.declared.info.Info.{Info}
+use Rattle.file_info.specs.declared.info.Info.TheVariants as infos
+use Rattle.file_info.specs.declared.info.Form.{Form}
+use Rattle.file_info.specs.declared.info.Form.TheVariants.{Follow}
+use Rattle.file_info.specs.declared.node.NodeName.{NodeName}
+use Rattle.file_info.specs.declared.node.NodeName.TheVariants.{Path}
+use Rattle.file_info.specs.declared.node.Read.{Read}
+use Rattle.file_info.specs.declared.node.Reading.{Reading}
+use Rattle.file_info.specs.declared.node.Reading.TheVariants.{File}
+use Rattle.manifest_reader.specs.declared.command.Command.{Command}
+use Rattle.manifest_reader.specs.declared.command.Input.{Input}
+use Rattle.manifest_reader.specs.declared.command.InputForm.{InputForm}
+use Rattle.manifest_reader.specs.declared.command.InputForm.TheVariants.{File as AsFile}
+use Rattle.manifest_reader.specs.FileManifest.{IsFileInput, IsServed}
+use Rattle.outside.specs.declared.order.Order.{Order}
+use Rattle.outside.specs.declared.order.Act.{Act}
+use Rattle.outside.specs.declared.order.Act.TheVariants.{Spawn}
+use Rattle.outside.specs.OrderForm.{IsReadOf, AreReadsOf, IsActOf, IsFormed, deps_of, paths_of}
+use Rattle.outside.specs.Meaning.{NodeKey}
+use Rattle.outside.specs.Outcome.{IsWritten, StandsAs, Unchanged, IsFound, found_contents, contents_at, output_form, form_of}
+use Rattle.build_meaning.specs.Commands.{key_in, key_of, meaning_of}
+use Rattle.build_meaning.specs.Fresh.{Does}
+use Rattle.build_meaning.proofs.PlaceLemmas.{In-one}
+use Rattle.llbuild_cli.specs.CommandRun.{IsInput, IsOutput, IsOrderFor, ReadsStand, DidLaw, contents_made}
+
+-- the one that was taken out is the one that was there
+pub taken_one : (e o : Order) (before after : List Order) → before ++ e ∷ after ≡ o ∷ [] → (e ≡ o) × (before ++ after ≡ [])
+taken_one e o [] after h = (cc h, cc h)
+taken_one e o (b ∷ []) after h = cc h
+taken_one e o (b ∷ (d ∷ before)) after h = cc h
+
+pub written_none : (orders : List Order) (p : List ℕ) → orders ≡ [] → IsWritten orders p → ⊥
+written_none orders p none w = subst (λ (os : List Order). In w.0 os) none w.1
+
+pub written_one : (orders : List Order) (order : Order) (c : Command) (p : List ℕ) → orders ≡ order ∷ [] → order.outputs ≡ paths_of c.outputs → order.deps ≡ []
+    → IsWritten orders p → IsOutput c p
+written_one orders order c p one outputs deps w =
+    let same : w.0 ≡ order = In-one (subst (λ (os : List Order). In w.0 os) one w.1) in
+    elim w.2 [
+      | inl o ↦ subst (In p) (ap (λ (z : Order). z.outputs) same ∙ outputs) o
+      | inr d ↦ absurd (subst (In p) (ap (λ (z : Order). z.deps) same ∙ deps) d)
+    ]
+
+pub no_deps : (c : Command) → IsServed c → deps_of (meaning_of c).tool ≡ []
+no_deps c served = ap (λ (d : Command). deps_of (meaning_of d).tool) served.is
+
+spawns : (c : Command) (act : Act) → (served : IsServed c) → IsActOf (meaning_of c).tool act → act ≡ Spawn served.words [] true false
+spawns c act served is = subst (λ (d : Command). IsActOf (meaning_of d).tool act) served.is is
+
+followed : (order : Order) (p : List ℕ) (words : List (List ℕ)) → order.act ≡ Spawn words [] true false → order.links ≡ [] → output_form order p ≡ Follow
+followed order p words act links = rw (act, links) refl
+
+pub map_same : {A B : Type 0} (f g : A → B) (xs : List A) → ((x : A) → f x ≡ g x) → map f xs ≡ map g xs
+map_same f g [] h = refl
+map_same f g (x ∷ xs) h = (let here = h x in let rest = map_same f g xs h in cc (here, rest))
+
+-- what the law gives for the order, it gives for the command
+pub did_step : (does : Does) (m : List FileVersion) (after : List ℕ → Form → Info) (c : Command) (ticket : ℕ) (reads : List Read) (order : Order)
+    → IsServed c → IsOrderFor c ticket reads order
+    → (IsFormed order → Unchanged after order → (w : List (List ℕ)) → IsFound m after order.deps w
+    → does order.signature (read_contents m order.reads) (found_contents m after order w) (contents_at m after order))
+    → Unchanged after order → DidLaw does m after c reads
+did_step does m after c ticket reads order served is law unchanged =
+    let deps : order.deps ≡ [] = is.is.deps ∙ no_deps c served in
+    let found : IsFound m after order.deps [] = subst (λ (d : List (List ℕ)). IsFound m after d []) (sym deps) refl in
+    let did = law (record { meaning = meaning_of c; is = is.is }) unchanged [] found in
+    let form = λ (p : List ℕ). followed order p served.words (spawns c order.act served is.is.act) is.is.links in
+    let outs : contents_at m after order ≡ contents_made m after c =
+    map_same (λ (p : List ℕ). content m p (after p (output_form order p))) (λ (p : List ℕ). content m p (after p Follow)) order.outputs (λ p. ap (λ (f : Form). content m p (after p f)) (form p))
+    ∙ ap (map (λ (p : List ℕ). content m p (after p Follow))) is.outputs_are in
+    subst (λ (s : List ℕ). does s (read_contents m reads) [] (contents_made m after c)) is.is.signature
+    (subst (λ (rs : List Read). does order.signature (read_contents m rs) [] (contents_made m after c)) is.reads_are
+    (subst (λ (o : List Content). does order.signature (read_contents m order.reads) [] o) outs did))
+
+-- the file of an input that was read
+pub record FileOf (inputs : List Input) (read : Read) : Type 0 where
+  pub path : List ℕ
+  pub info : Info
+  pub node : read.node ≡ Path path
+  pub reading : read.reading ≡ File info
+  pub input : IsInput inputs path
+
+read_fits : (node : NodeName) (form : InputForm) (p : List ℕ) (r : Read) → form ≡ AsFile → node ≡ Path p → IsReadOf (key_in node form) r
+    → (r.node ≡ Path p) × ((info : Info) × (r.reading ≡ File info))
+read_fits node form p r is_file is_path is =
+    subst (λ (n : NodeName). IsReadOf (NodeKey n) r) is_path (subst (λ (f : InputForm). IsReadOf (key_in node f) r) is_file is)
+
+pub file_of : (inputs : List Input) (reads : List Read) → ((i : Input) → In i inputs → IsFileInput i) → AreReadsOf (map key_of inputs) reads
+    → (r : Read) → In r reads → FileOf inputs r
+file_of [] [] files h r i = absurd i
+file_of [] (x ∷ xs) files h r i = absurd h
+file_of (j ∷ js) [] files h r i = absurd i
+file_of (j ∷ js) (x ∷ xs) files h r (inl e) =
+    let file = files j (inl refl) in
+    let fit = read_fits j.node j.form file.node.path x file.form file.node.is h.0 in
+    record {
+      path = file.node.path;
+      info = fit.1.0;
+      node = ap (λ (z : Read). z.node) e ∙ fit.0;
+      reading = ap (λ (z : Read). z.reading) e ∙ fit.1.1;
+      input = (j, (inl refl, sym (ap node_text file.node.is)));
+    }
+file_of (j ∷ js) (x ∷ xs) files h r (inr k) =
+    let f = file_of js xs (λ i l. files i (inr l)) h.1 r k in
+    record { path = f.path; info = f.info; node = f.node; reading = f.reading; input = (f.input.0, (inr f.input.1.0, f.input.1.1)) }
+
+stands_followed : (after : List ℕ → Form → Info) (p : List ℕ) (i : Info) → ((t : List ℕ) → i ≡ infos.Link t → ⊥) → after p Follow ≡ i → after p (form_of [] p i) ≡ i
+stands_followed after p infos.Missing free e = e
+stands_followed after p infos.Directory free e = e
+stands_followed after p (infos.File size stamp) free e = e
+stands_followed after p (infos.Link t) free e = absurd (free t refl)
+
+-- files that stand are unchanged
+pub unchanged : (after : List ℕ → Form → Info) (inputs : List Input) (reads : List Read) (order : Order)
+    → ((p t : List ℕ) → after p Follow ≡ infos.Link t → ⊥) → order.reads ≡ reads → order.links ≡ []
+    → ((r : Read) → In r reads → FileOf inputs r) → ReadsStand after reads → Unchanged after order
+unchanged after inputs reads order no_link same links files stand r i =
+    let i_in = subst (λ (rs : List Read). In r rs) same i in
+    let f = files r i_in in
+    let here : after f.path Follow ≡ f.info = stand r f.path f.info i_in f.node f.reading in
+    let there : StandsAs after [] (node_text (Path f.path)) (File f.info) = stands_followed after f.path f.info (λ t e. no_link f.path t (here ∙ e)) here in
+    subst (λ (l : List (List ℕ)). StandsAs after l (node_text r.node) r.reading) (sym links)
+    (subst (λ (n : NodeName). StandsAs after [] (node_text n) r.reading) (sym f.node)
+    (subst (λ (g : Reading). StandsAs after [] (node_text (Path f.path)) g) (sym f.reading) there))
+
+-- what stood still stands where no input is written
+pub reads_on : (before after : List ℕ → Form → Info) (c : Command) (reads : List Read)
+    → ((p : List ℕ) → IsInput c.inputs p → IsOutput c p → ⊥) → ((p : List ℕ) (f : Form) → (IsOutput c p → ⊥) → after p f ≡ before p f)
+    → ((r : Read) → In r reads → FileOf c.inputs r) → ReadsStand before reads → ReadsStand after reads
+reads_on before after c reads apart same files stand r p i i_in node reading =
+    let f = files r i_in in
+    let path : p ≡ f.path = ap node_text (sym node ∙ f.node) in
+    let input : IsInput c.inputs p = subst (λ (q : List ℕ). IsInput c.inputs q) (sym path) f.input in
+    same p Follow (apart p input) ∙ stand r p i i_in node reading

@@ -1,0 +1,110 @@
+-- What stands between two commands goes on from command to command.
+use Rattle.std.proofs.Common.{◌≡◌, ◌≤◌, ℕ, zero, suc, ◌+◌, Bool, List, [], ◌∷◌, ◌++◌, drop, refl, sym, ◌∙◌, ap, inl, inr, subst, arith, add-one}
+use Rattle.std.specs.Prelude.{slice_get, Some}
+use Rattle.file_info.specs.Lists.{In}
+use Rattle.file_info.specs.declared.info.Info.{Info}
+use Rattle.file_info.specs.declared.info.Form.TheVariants.{Follow}
+use Rattle.outside.specs.View.{DiskView, Told}
+use Rattle.manifest_reader.specs.declared.command.Command.{Command}
+use Rattle.build_meaning.proofs.PlaceLemmas.{In-left, In-either, In-one, In-get, map-append}
+use Rattle.build_meaning.proofs.FreshLemmas.{Fresh-more}
+use Rattle.build_meaning.specs.Fresh.{Does, Sights, IsMade, source}
+use Rattle.llbuild_cli.specs.declared.report.StatSeen.{StatSeen}
+use Rattle.llbuild_cli.specs.Journal.{Journal, Knows, IsUnknown, unused}
+use Rattle.llbuild_cli.specs.Look.{IsNew, Looked}
+use Rattle.llbuild_cli.specs.Move.{Moved}
+use Rattle.llbuild_cli.specs.Sight.{sights_of}
+use Rattle.llbuild_cli.specs.Stands.{Stands}
+use Rattle.llbuild_cli.proofs.ProgressLemmas.{looked_kept, looked_came}
+
+pub In-drop : {A : Type 0} (x : A) (n : ℕ) (xs : List A) → In x (drop n xs) → In x xs
+In-drop x zero xs i = i
+In-drop x (suc n) [] i = i
+In-drop x (suc n) (y ∷ ys) i = inr (In-drop x n ys i)
+
+pub made_of_drop : (n : ℕ) (commands : List Command) (p : List ℕ) → IsMade (drop n commands) p → IsMade commands p
+made_of_drop n commands p h = record { by = h.by; named = In-drop h.by n commands h.named; output = h.output }
+
+-- one that is looked up at a place is dropped with those before it, or is not
+pub In-later : {A : Type 0} (xs : List A) (n k : ℕ) (x : A) → slice_get xs k ≡ Some x → n ≤ k → In x (drop n xs)
+In-later xs zero k x e h = In-get xs k x e
+In-later [] (suc n) k x e h = cc e
+In-later (y ∷ ys) (suc n) zero x e h = absurd (omega arith)
+In-later (y ∷ ys) (suc n) (suc k) x e h = In-later ys n k x e (omega arith)
+
+drop_suc : {A : Type 0} (x : A) (n : ℕ) (xs : List A) → In x (drop (suc n) xs) → In x (drop n xs)
+drop_suc x zero [] i = i
+drop_suc x zero (y ∷ ys) i = inr i
+drop_suc x (suc n) [] i = i
+drop_suc x (suc n) (y ∷ ys) i = drop_suc x n ys i
+
+pub In-drop-more : {A : Type 0} (x : A) (n : ℕ) (xs : List A) → In x (drop (n + 1) xs) → In x (drop n xs)
+In-drop-more x n xs i = drop_suc x n xs (subst (λ (k : ℕ). In x (drop k xs)) (add-one n) i)
+
+pub made_more : (n : ℕ) (commands : List Command) (p : List ℕ) → IsMade (drop (n + 1) commands) p → IsMade (drop n commands) p
+made_more n commands p h = record { by = h.by; named = In-drop-more h.by n commands h.named; output = h.output }
+
+pub stands_first : {does : Does} {commands : List Command} {marks : List Bool} {w : DiskView} {seen : Journal} → seen ≡ unused → Stands does commands marks 0 w seen
+stands_first {does} {commands} {marks} {w} {seen} same = subst (λ (j : Journal). Stands does commands marks 0 w j) (sym same) (record {
+  stand = λ t p i k. absurd (nothing p i k);
+  fresh = λ m t p i k. absurd (nothing p i k);
+  done = λ k c p h. absurd (omega arith);
+  later = λ p i k h. nothing p i k;
+  sources = λ p i s h. s;
+})
+  where
+    nothing : (p : List ℕ) (i : Info) → Knows unused p i → ⊥
+    nothing p i (inl s) = s
+    nothing p i (inr w) = w.1.0
+
+-- some paths were asked for, and what is written was not seen before
+pub stands_looked : {does : Does} {commands : List Command} {marks : List Bool} {place : ℕ} {w v : DiskView} {a b : Journal} {asked written : List ℕ → Type 0}
+    → Stands does commands marks place w a
+    → Moved written w v
+    → ((p : List ℕ) (i : Info) → Knows a p i → written p → ⊥)
+    → ((p : List ℕ) → asked p → IsMade commands p → (i : Info) × Knows a p i)
+    → Looked v asked a b
+    → Stands does commands marks place v b
+stands_looked {does} {commands} {marks} {place} {w} {v} {a} {b} {asked} old moved apart settled looked =
+    let unmade = λ (p : List ℕ) (i : Info) (n : IsNew v asked a p i) (h : IsMade commands p). (let k = settled p n.was_asked h in absurd (n.unknown k.0 k.1)) in
+    record {
+      stand = λ t p i e. elim (looked_came looked p i e) [
+        | inl k ↦ moved.same t p Follow (apart p i k) ∙ old.stand (moved.keeps.infos t) p i k
+        | inr n ↦ n.0.stood t
+      ];
+      fresh = λ m t p i e. elim (looked_came looked p i e) [
+        | inl k ↦ Fresh-more looked.kept (old.fresh m (moved.keeps.contents m t) p i k)
+        | inr n ↦ source i (unmade p i n.0) n.1 refl
+      ];
+      done = λ k c p h marked at_k o. (let was = old.done k c p h marked at_k o in (was.0, looked_kept looked p was.0 was.1));
+      later = λ p i e h. elim (looked_came looked p i e) [
+        | inl k ↦ old.later p i k h
+        | inr n ↦ unmade p i n.0 (made_of_drop place commands p h)
+      ];
+      sources = λ p i s h. elim (looked.came p i s) [ inl k ↦ old.sources p i k h | inr n ↦ unmade p i n h ];
+    }
+
+-- a source came in that was asked for
+pub looked_source : {world : DiskView} {a b : Journal} (path : List ℕ) (info : Info)
+    → b ≡ record { starts = a.starts; stats = a.stats ++ record { path = path; info = info } ∷ []; heard = a.heard } → IsUnknown a path → (Told world → world.at path Follow ≡ info)
+    → Looked world (λ (p : List ℕ). p ≡ path) a b
+looked_source {world} {a} {b} path info same unknown stood = subst (λ (j : Journal). Looked world (λ (p : List ℕ). p ≡ path) a j) (sym same) (record {
+  starts = refl;
+  heard = refl;
+  kept = λ x h. subst (λ (ss : Sights). In x ss) (sym sights) (In-left x (sights_of a.stats) ((path, info) ∷ []) h);
+  came = λ p i h. elim (In-either (p, i) (sights_of a.stats) ((path, info) ∷ []) (subst (λ (ss : Sights). In (p, i) ss) sights h)) [
+    | inl k ↦ inl k
+    | inr k ↦
+        (let pair = In-one k in
+        let first : p ≡ path = ap (λ (z : List ℕ × Info). z.0) pair in
+        let second : i ≡ info = ap (λ (z : List ℕ × Info). z.1) pair in
+        inr (record {
+          was_asked = first;
+          unknown = subst (λ (q : List ℕ). IsUnknown a q) (sym first) unknown;
+          stood = λ t. ap (λ (q : List ℕ). world.at q Follow) first ∙ stood t ∙ sym second;
+        }))
+  ];
+})
+  where
+    sights : sights_of (a.stats ++ record { path = path; info = info } ∷ []) ≡ sights_of a.stats ++ (path, info) ∷ []
+    sights = map-append (λ (s : StatSeen). (s.path, s.info)) a.stats (record { path = path; info = info } ∷ [])

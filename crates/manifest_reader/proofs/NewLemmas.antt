@@ -1,0 +1,85 @@
+-- Items that are noted one by one, where none is noted twice.
+use Rattle.std.proofs.Common.{◌≡◌, ℕ, Bool, true, false, not, ◌&&◌, ◌||◌, cond, List, [], ◌∷◌, ◌++◌, Option, Some, None, refl, sym, ap, ◌∙◌}
+use Rattle.std.specs.List.{list_any}
+use Rattle.std.specs.Option.{option_or, is_none}
+use Rattle.manifest_reader.specs.Rules.{differ, are_new}
+use Rattle.manifest_reader.proofs.StepLemmas.{option_or_cond}
+
+-- the items of `new` have the place, and the others the one that they had
+abbrev pub Notes : {A : Type 0} → (A → Bool) → ℕ → Option ℕ → Option ℕ → A → Type 0
+Notes finds at old new q = new ≡ option_or old (cond (finds q) (Some at) None)
+
+shuffle : (s t a b r : Bool) → ((a && not s) && b && (not t && r)) ≡ (not (s || t) && (a && b && r))
+shuffle true true true true r = refl
+shuffle true true true false r = refl
+shuffle true true false b r = refl
+shuffle true false true true r = refl
+shuffle true false true false r = refl
+shuffle true false false b r = refl
+shuffle false true true true r = refl
+shuffle false true true false r = refl
+shuffle false true false b r = refl
+shuffle false false true true r = refl
+shuffle false false true false r = refl
+shuffle false false false b r = refl
+
+none_now : (o : Option ℕ) (s : Bool) (n : ℕ) → is_none (option_or o (cond s (Some n) None)) ≡ (is_none o && not s)
+none_now None true n = refl
+none_now None false n = refl
+none_now (Some x) s n = refl
+
+-- what is new once one item more has a place
+pub new_beside : {A : Type 0} (same : A → A → Bool) (swap : (p q : A) → same p q ≡ same q p) (place now : A → Option ℕ) (x : A) (n : ℕ)
+    → ((q : A) → now q ≡ option_or (place q) (cond (same q x) (Some n) None)) → (ys : List A)
+    → are_new same now ys ≡ (not (list_any (same x) ys) && are_new same place ys)
+new_beside same swap place now x n noted [] = refl
+new_beside same swap place now x n noted (y ∷ ys) =
+    ap (λ (r : Bool). is_none (now y) && not (list_any (same y) ys) && r) (new_beside same swap place now x n noted ys)
+    ∙ ap (λ (o : Option ℕ). is_none o && not (list_any (same y) ys) && (not (list_any (same x) ys) && are_new same place ys)) (noted y)
+    ∙ ap (λ (a : Bool). a && not (list_any (same y) ys) && (not (list_any (same x) ys) && are_new same place ys)) (none_now (place y) (same y x) n)
+    ∙ ap (λ (s : Bool). is_none (place y) && not s && not (list_any (same y) ys) && (not (list_any (same x) ys) && are_new same place ys)) (swap y x)
+    ∙ shuffle (same x y) (list_any (same x) ys) (is_none (place y)) (not (list_any (same y) ys)) (are_new same place ys)
+
+and_assoc : (a b c : Bool) → (a && b && c) ≡ (a && (b && c))
+and_assoc true b c = refl
+and_assoc false b c = refl
+
+-- one item, and then those that are new beside it
+pub new_first : {A : Type 0} (same : A → A → Bool) (swap : (p q : A) → same p q ≡ same q p) (place now : A → Option ℕ) (x : A) (n : ℕ)
+    → ((q : A) → now q ≡ option_or (place q) (cond (same q x) (Some n) None)) → (ys : List A)
+    → are_new same place (x ∷ ys) ≡ (is_none (place x) && are_new same now ys)
+new_first same swap place now x n noted ys =
+    and_assoc (is_none (place x)) (not (list_any (same x) ys)) (are_new same place ys)
+    ∙ ap (λ (r : Bool). is_none (place x) && r) (sym (new_beside same swap place now x n noted ys))
+
+-- equal places, equal answers
+pub new_alike : {A : Type 0} (same : A → A → Bool) (place now : A → Option ℕ) → ((q : A) → now q ≡ place q) → (ys : List A)
+    → are_new same place ys ≡ are_new same now ys
+new_alike same place now alike [] = refl
+new_alike same place now alike (y ∷ ys) =
+    ap (λ (r : Bool). is_none (place y) && not (list_any (same y) ys) && r) (new_alike same place now alike ys)
+    ∙ ap (λ (o : Option ℕ). is_none o && not (list_any (same y) ys) && are_new same now ys) (sym (alike y))
+
+or_nothing : (o : Option ℕ) → option_or o None ≡ o
+or_nothing None = refl
+or_nothing (Some x) = refl
+
+-- some items with one place, and then those that are new beside them
+pub new_group : {A : Type 0} (same : A → A → Bool) (swap : (p q : A) → same p q ≡ same q p) (place now : A → Option ℕ) (xs : List A) (n : ℕ)
+    → ((q : A) → now q ≡ option_or (place q) (cond (list_any (same q) xs) (Some n) None)) → (ys : List A)
+    → are_new same place (xs ++ ys) ≡ (are_new same place xs && are_new same now ys)
+new_group same swap place now [] n noted ys = new_alike same place now (λ q. noted q ∙ or_nothing (place q)) ys
+new_group {A} same swap place now (x ∷ xs) n noted ys =
+    let mid : A → Option ℕ = λ q. option_or (place q) (cond (same q x) (Some n) None) in
+    new_first same swap place mid x n (λ q. refl) (xs ++ ys)
+    ∙ ap (λ (r : Bool). is_none (place x) && r) (new_group same swap mid now xs n (λ q. noted q ∙ sym (option_or_cond (place q) (same q x) (list_any (same q) xs) n)) ys)
+    ∙ sym (and_assoc (is_none (place x)) (are_new same mid xs) (are_new same now ys))
+    ∙ ap (λ (r : Bool). r && are_new same now ys) (sym (new_first same swap place mid x n (λ q. refl) xs))
+
+-- where nothing has a place, the items have only to differ
+pub new_at_first : {A : Type 0} (same : A → A → Bool) (place : A → Option ℕ) → ((q : A) → place q ≡ None) → (xs : List A)
+    → differ same xs ≡ are_new same place xs
+new_at_first same place none [] = refl
+new_at_first same place none (x ∷ xs) =
+    ap (λ (r : Bool). not (list_any (same x) xs) && r) (new_at_first same place none xs)
+    ∙ ap (λ (o : Option ℕ). is_none o && not (list_any (same x) xs) && are_new same place xs) (sym (none x))

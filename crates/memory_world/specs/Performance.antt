@@ -1,0 +1,106 @@
+-- What an order for a toy command does to files in memory.
+use Rattle.std.specs.Prelude.{◌≡◌, ◌||◌, ◌&&◌, ℕ, suc, Bool, true, false, not, if◌then◌else◌, List, [], ◌∷◌, ◌++◌, map}
+use Rattle.std.specs.List.{list_any}
+use Rattle.file_info.specs.Content.{Content, ReadContent, Void, One, Entries, Shape, same_list, node_text}
+use Rattle.file_info.specs.Lists.{In}
+use Rattle.file_info.specs.declared.info.Info.{Info}
+use Rattle.file_info.specs.declared.info.Info.TheVariants as infos
+use Rattle.file_info.specs.declared.info.Form.{Form}
+use Rattle.file_info.specs.declared.info.Form.TheVariants.{Link}
+use Rattle.file_info.specs.declared.node.NodeName.{NodeName}
+use Rattle.file_info.specs.declared.node.TreeEntry.{TreeEntry}
+use Rattle.file_info.specs.declared.node.ShapeEntry.{ShapeEntry}
+use Rattle.file_info.specs.declared.node.Reading.{Reading}
+use Rattle.file_info.specs.declared.node.Reading.TheVariants as readings
+use Rattle.file_info.specs.declared.node.Read.{Read}
+use Rattle.outside.specs.declared.order.Order.{Order}
+use Rattle.outside.specs.declared.order.Act.{Act}
+use Rattle.outside.specs.declared.order.Act.TheVariants.{Spawn, MakeDir, MakeLink}
+use Rattle.outside.specs.declared.order.Exit.{Exit}
+use Rattle.outside.specs.declared.order.Exit.TheVariants.{Code}
+use Rattle.memory_world.specs.declared.write.Write.{Write}
+use Rattle.memory_world.specs.declared.write.What.TheVariants.{Bytes}
+use Rattle.outside.specs.Outcome.{form_of}
+use Rattle.memory_world.specs.Log.{put, last_of, info_of, info_at, standing}
+use Rattle.memory_world.specs.Toy.{message_of, digest_of, reading_fails}
+
+-- what stands at an entry of a tree, asked for as the order asks. Contents are given by path and form.
+abbrev pub entry_at : (List ℕ → Form → Content) → List (List ℕ) → TreeEntry → List ℕ × Content
+entry_at held links e = (e.path, held e.path (form_of links e.path e.info))
+
+-- what stands where this was read of the path
+abbrev pub reading_at : (List ℕ → Form → Content) → List (List ℕ) → List ℕ → Reading → ReadContent
+reading_at held links path readings.Nothing = Void
+reading_at held links path (readings.File info) = One (held path (form_of links path info))
+reading_at held links path (readings.Tree entries) = Entries (map (entry_at held links) entries)
+reading_at held links path (readings.Structure entries) = Shape entries
+
+abbrev pub read_at : (List ℕ → Form → Content) → List (List ℕ) → Read → NodeName × ReadContent
+read_at held links r = (r.node, reading_at held links (node_text r.node) r.reading)
+
+-- the reads of an order, as they stand
+abbrev pub reads_at : List Write → Order → List (NodeName × ReadContent)
+reads_at ws order = map (read_at (standing ws) order.links) order.reads
+
+-- the path was read where this was read of that path
+abbrev pub is_read : List ℕ → Reading → List ℕ → Bool
+is_read path readings.Nothing other = false
+is_read path (readings.File info) other = same_list path other
+is_read path (readings.Tree entries) other = same_list path other || list_any (λ (e : TreeEntry). same_list e.path other) entries
+is_read path (readings.Structure entries) other = same_list path other || list_any (λ (e : ShapeEntry). same_list e.path other) entries
+
+abbrev pub is_directory : Info → Bool
+is_directory infos.Missing = false
+is_directory infos.Directory = true
+is_directory (infos.File size stamp) = false
+is_directory (infos.Link text) = false
+
+-- the path cannot be an output: it is a directory, or was read
+abbrev pub is_blocked : (List ℕ → Form → Info) → List Read → List ℕ → Bool
+is_blocked at reads path = is_directory (at path Link) || list_any (λ (r : Read). is_read (node_text r.node) r.reading path) reads
+
+-- a file that was read has a line `fail`
+abbrev pub has_failing : (List ℕ → Form → Content) → Order → Bool
+has_failing held order = list_any (λ (r : Read). reading_fails (reading_at held order.links (node_text r.node) r.reading)) order.reads
+
+-- the order is one for a program without dependency files
+abbrev pub is_served : Order → Bool
+is_served order = act_served order.act order.deps
+  where
+    act_served : Act → List (List ℕ) → Bool
+    act_served (Spawn words env inherit clear) [] = true
+    act_served (Spawn words env inherit clear) (dep ∷ deps) = false
+    act_served MakeDir deps = false
+    act_served (MakeLink text) deps = false
+
+-- the order succeeds where these are the informations and the contents
+abbrev pub succeeds_by : (List ℕ → Form → Info) → (List ℕ → Form → Content) → Order → Bool
+succeeds_by at held order = is_served order && not (list_any (is_blocked at order.reads) order.outputs) && not (has_failing held order)
+
+-- the exit of the order where these are the informations and the contents
+abbrev pub exit_by : (List ℕ → Form → Info) → (List ℕ → Form → Content) → Order → Exit
+exit_by at held order = if succeeds_by at held order then Code 0 else Code 1
+
+-- the order succeeds on these files
+abbrev pub succeeds : List Write → Order → Bool
+succeeds ws order = succeeds_by (info_at ws) (standing ws) order
+
+-- the outputs, from this place on, hold their digests
+abbrev pub put_digests : List Write → List ℕ → ℕ → List (List ℕ) → List Write
+put_digests ws message place [] = ws
+put_digests ws message place (path ∷ paths) = put_digests (put ws path (Bytes (digest_of message place))) message (suc place) paths
+
+-- the files after the order
+abbrev pub performed : List Write → Order → List Write
+performed ws order = if succeeds ws order then put_digests ws (message_of order.signature (reads_at ws order) []) 0 order.outputs else ws
+
+-- the exit of the order on these files
+abbrev pub exit_of : List Write → Order → Exit
+exit_of ws order = exit_by (info_at ws) (standing ws) order
+
+-- the log went on at these paths alone, and at none that was a directory
+pub record WentOn (paths : List (List ℕ)) (old new : List Write) : Type 0 where
+  pub more : List Write
+  pub is : new ≡ old ++ more
+  pub at : (w : Write) → In w more → In w.path paths
+  pub spared : (w : Write) → In w more → is_directory (info_of (last_of old w.path) Link) ≡ false
