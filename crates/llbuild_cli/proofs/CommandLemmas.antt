@@ -18,11 +18,11 @@ use Rattle.manifest_reader.specs.declared.command.Command.{Command}
 use Rattle.build_meaning.proofs.PlaceLemmas.{get-less, In-get, In-index, In-left, In-right, In-either, In-one, get-map}
 use Rattle.build_meaning.specs.Commands.{meaning_of}
 use Rattle.build_meaning.specs.Fresh.{Does}
-use Rattle.llbuild_cli.specs.declared.report.Heard.{Heard}
-use Rattle.llbuild_cli.specs.declared.report.Outcome.TheVariants.{Done}
+use Rattle.build_report.specs.declared.report.Heard.{Heard}
+use Rattle.build_report.specs.declared.report.Outcome.TheVariants.{Done}
 use Rattle.llbuild_cli.specs.Outcome.{HeardWell, IsGiven, IsOutcomeOf, IsLawful, contents_of}
 use Rattle.llbuild_cli.specs.Journal.{Journal, Knows, IsUnknown, IsOnce}
-use Rattle.llbuild_cli.specs.declared.report.StatSeen.{StatSeen}
+use Rattle.build_report.specs.declared.report.StatSeen.{StatSeen}
 use Rattle.llbuild_cli.specs.Look.{Looked, CameFrom}
 use Rattle.llbuild_cli.specs.Move.{Moved}
 use Rattle.llbuild_cli.specs.Input.{AreRead}

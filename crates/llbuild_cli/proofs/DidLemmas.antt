@@ -9,13 +9,13 @@ use Rattle.outside.specs.declared.order.Exit.{Exit}
 use Rattle.outside.specs.declared.world.NoFault.{NoFault}
 use Rattle.build_meaning.specs.Fresh.{IsMade}
 use Rattle.build_meaning.proofs.PlaceLemmas.{In-either, In-one, In-map-back}
-use Rattle.llbuild_cli.specs.declared.report.End.{End}
-use Rattle.llbuild_cli.specs.declared.report.End.TheVariants as ends
-use Rattle.llbuild_cli.specs.declared.report.Heard.{Heard}
-use Rattle.llbuild_cli.specs.declared.report.Outcome.{Outcome}
-use Rattle.llbuild_cli.specs.declared.report.Outcome.TheVariants.{Failed}
-use Rattle.llbuild_cli.specs.declared.report.Start.{Start}
-use Rattle.llbuild_cli.specs.declared.report.StatSeen.{StatSeen}
+use Rattle.build_report.specs.declared.report.End.{End}
+use Rattle.build_report.specs.declared.report.End.TheVariants as ends
+use Rattle.build_report.specs.declared.report.Heard.{Heard}
+use Rattle.build_report.specs.declared.report.Outcome.{Outcome}
+use Rattle.build_report.specs.declared.report.Outcome.TheVariants.{Failed}
+use Rattle.build_report.specs.declared.report.Start.{Start}
+use Rattle.build_report.specs.declared.report.StatSeen.{StatSeen}
 use Rattle.llbuild_cli.specs.declared.stop.Stop.{Stop}
 use Rattle.llbuild_cli.specs.declared.stop.Stop.TheVariants as stops
 use Rattle.llbuild_cli.specs.MissingInput.{AllReadFirst, StopsAtMissing}
@@ -33,7 +33,7 @@ use Rattle.llbuild_cli.specs.Sight.{sights_of}
 use Rattle.llbuild_cli.specs.Source.{AreSources, IsAsked}
 use Rattle.llbuild_cli.specs.Start.{AreStarts, AllStarted, IsNextStart}
 use Rattle.llbuild_cli.specs.Stop.{end_of, end_after}
-use Rattle.llbuild_cli.specs.Text.{lines_of, summary_text}
+use Rattle.build_report.specs.Text.{lines_of, summary_text}
 use Rattle.llbuild_cli.proofs.MissingLemmas.{first_looked_on}
 use Rattle.llbuild_cli.proofs.ProgressLemmas.{looked_sources, moved_none, moved_both, moved_stayed}
 use Rattle.llbuild_cli.proofs.JournalLemmas.{sight_in}

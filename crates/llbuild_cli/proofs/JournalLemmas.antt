@@ -13,9 +13,9 @@ use Rattle.file_info.specs.declared.info.Info.{Info}
 use Rattle.outside.specs.declared.order.Exit.{Exit}
 use Rattle.outside.specs.declared.order.Order.{Order}
 use Rattle.build_meaning.proofs.PlaceLemmas.{In-left, In-right, In-either, In-one, In-index, get-less, map-append}
-use Rattle.llbuild_cli.specs.declared.report.Heard.{Heard}
-use Rattle.llbuild_cli.specs.declared.report.Outcome.TheVariants.{Failed, Done}
-use Rattle.llbuild_cli.specs.declared.report.StatSeen.{StatSeen}
+use Rattle.build_report.specs.declared.report.Heard.{Heard}
+use Rattle.build_report.specs.declared.report.Outcome.TheVariants.{Failed, Done}
+use Rattle.build_report.specs.declared.report.StatSeen.{StatSeen}
 use Rattle.llbuild_cli.specs.Journal.{Journal, Knows, IsOnce, IsIndex}
 use Rattle.llbuild_cli.specs.Index.{Noted, AllNoted, keys_of, infos_of, with_entry, with_entries}
 use Rattle.llbuild_cli.specs.Sight.{GivesInfo, Shows, sights_of, sources_of}

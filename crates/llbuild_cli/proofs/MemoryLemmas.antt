@@ -33,8 +33,8 @@ use Rattle.build_meaning.proofs.OrderlyLemmas.{orderly}
 use Rattle.build_meaning.proofs.FreshLemmas.{IsDetermined, Fresh-unique}
 use Rattle.llbuild_cli.specs.declared.refusal.Refusal.{Refusal}
 use Rattle.llbuild_cli.specs.declared.refusal.Refusal.TheVariants as refusals
-use Rattle.llbuild_cli.specs.declared.report.End.TheVariants as ends
-use Rattle.llbuild_cli.specs.declared.report.Report.{Report}
+use Rattle.build_report.specs.declared.report.End.TheVariants as ends
+use Rattle.build_report.specs.declared.report.Report.{Report}
 use Rattle.llbuild_cli.specs.declared.stop.Stop.{Stop}
 use Rattle.llbuild_cli.specs.declared.stop.Stop.TheVariants as stops
 use Rattle.llbuild_cli.specs.declared.words.Job.{Job}
@@ -43,7 +43,7 @@ use Rattle.llbuild_cli.specs.Plan.{Gave, Plan, plan_of, plan_loaded, plan_named,
 use Rattle.llbuild_cli.specs.Run.{Planned, Served, Wrote, answers_of, run_of}
 use Rattle.llbuild_cli.specs.Sight.{sights_of}
 use Rattle.llbuild_cli.specs.Stop.{end_of, end_after}
-use Rattle.llbuild_cli.specs.Text.{lines_of, summary_text}
+use Rattle.build_report.specs.Text.{lines_of, summary_text}
 use Rattle.llbuild_cli.proofs.InputLemmas.{is_missing}
 
 -- each source that is there was seen with the same content by another map

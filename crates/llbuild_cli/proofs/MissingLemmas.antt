@@ -13,11 +13,11 @@ use Rattle.outside.specs.declared.order.Ended.{Ended}
 use Rattle.outside.specs.declared.order.Exit.{Exit}
 use Rattle.outside.specs.declared.order.Order.{Order}
 use Rattle.build_meaning.proofs.PlaceLemmas.{In-left, In-right, In-either, In-one}
-use Rattle.llbuild_cli.specs.declared.report.Heard.{Heard}
-use Rattle.llbuild_cli.specs.declared.report.Outcome.{Outcome}
-use Rattle.llbuild_cli.specs.declared.report.Outcome.TheVariants.{Failed}
-use Rattle.llbuild_cli.specs.declared.report.Start.{Start}
-use Rattle.llbuild_cli.specs.declared.report.StatSeen.{StatSeen}
+use Rattle.build_report.specs.declared.report.Heard.{Heard}
+use Rattle.build_report.specs.declared.report.Outcome.{Outcome}
+use Rattle.build_report.specs.declared.report.Outcome.TheVariants.{Failed}
+use Rattle.build_report.specs.declared.report.Start.{Start}
+use Rattle.build_report.specs.declared.report.StatSeen.{StatSeen}
 use Rattle.llbuild_cli.specs.declared.stop.Stop.{Stop}
 use Rattle.llbuild_cli.specs.declared.stop.Stop.TheVariants.{CommandFailed, MissingInput, DiskFault, SinkFault, NoMemory}
 use Rattle.llbuild_cli.specs.MissingInput.{IsNext, IsAsker, IsStuck, StopsAtMissing, IsStartOn, IsOrderOn, ReadFirst, AllReadFirst}

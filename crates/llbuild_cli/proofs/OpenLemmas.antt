@@ -18,7 +18,7 @@ use Rattle.build_meaning.proofs.PlaceLemmas.{In-get}
 use Rattle.llbuild_cli.specs.declared.refusal.Refusal.{Refusal}
 use Rattle.llbuild_cli.specs.declared.refusal.Refusal.TheVariants as refusals
 use Rattle.llbuild_cli.specs.declared.words.Job.{Job}
-use Rattle.llbuild_cli.specs.declared.words.UsageFault.TheVariants.{Words}
+use Rattle.build_report.specs.declared.report.UsageFault.TheVariants.{Words}
 use Rattle.llbuild_cli.specs.Open.{disk_refusal, load_refusal, IsUnread, IsUnloaded, IsOpened, unplanned, failed, no_memory, refused}
 use Rattle.llbuild_cli.specs.Plan as plans
 use Rattle.llbuild_cli.specs.Plan.{Gave, IsAnswer, FileAnswer, IsPlan, IsRefused, IsRefusal, plan_of, plan_loaded, plan_named}

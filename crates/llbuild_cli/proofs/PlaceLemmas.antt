@@ -13,7 +13,7 @@ use Rattle.build_meaning.specs.Commands.{meaning_of}
 use Rattle.build_meaning.specs.Fresh.{Does, Sights, IsMade, Fresh, made}
 use Rattle.build_meaning.proofs.PlaceLemmas.{In-index, In-get, get-map}
 use Rattle.build_meaning.proofs.FreshLemmas.{Fresh-more}
-use Rattle.llbuild_cli.specs.declared.report.StatSeen.{StatSeen}
+use Rattle.build_report.specs.declared.report.StatSeen.{StatSeen}
 use Rattle.llbuild_cli.specs.Move.{Moved}
 use Rattle.llbuild_cli.specs.CommandRun.{IsInput, IsOutput, DidCommand, contents_made, DidLaw}
 use Rattle.llbuild_cli.specs.Stands.{Stands}

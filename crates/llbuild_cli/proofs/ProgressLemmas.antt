@@ -9,8 +9,8 @@ use Rattle.file_info.specs.declared.info.Form.TheVariants.{Follow}
 use Rattle.outside.specs.View.{DiskView, Told, Keeps, Stayed}
 use Rattle.outside.specs.declared.world.NoFault.{NoFault}
 use Rattle.build_meaning.proofs.PlaceLemmas.{map-append}
-use Rattle.llbuild_cli.specs.declared.report.End.{End}
-use Rattle.llbuild_cli.specs.declared.report.Heard.{Heard}
+use Rattle.build_report.specs.declared.report.End.{End}
+use Rattle.build_report.specs.declared.report.Heard.{Heard}
 use Rattle.llbuild_cli.specs.Journal.{Journal, Knows, IsUnknown}
 use Rattle.llbuild_cli.specs.Look.{IsNew, Looked, CameFrom}
 use Rattle.llbuild_cli.specs.Move.{Moved}

@@ -6,8 +6,8 @@ use Rattle.outside.specs.View.{DiskView, SinkView, Grew, Stayed}
 use Rattle.outside.specs.declared.world.NoFault.{NoFault}
 use Rattle.llbuild_cli.specs.declared.refusal.Refusal.{Refusal}
 use Rattle.llbuild_cli.specs.declared.refusal.Refusal.TheVariants as refusals
-use Rattle.llbuild_cli.specs.declared.report.End.{End}
-use Rattle.llbuild_cli.specs.declared.report.Report.{Report}
+use Rattle.build_report.specs.declared.report.End.{End}
+use Rattle.build_report.specs.declared.report.Report.{Report}
 use Rattle.llbuild_cli.specs.declared.stop.Stop.{Stop}
 use Rattle.llbuild_cli.specs.declared.stop.Stop.TheVariants as stops
 use Rattle.llbuild_cli.specs.Journal.{Journal, unused}
@@ -18,7 +18,7 @@ use Rattle.llbuild_cli.specs.Run.{Answers, Did, IsWhy, Run, Served, Wrote, Wrote
 use Rattle.llbuild_cli.specs.Finish.{end_in, without_memory}
 use Rattle.llbuild_cli.specs.Start.{AllStarted}
 use Rattle.llbuild_cli.specs.Stop.{end_after}
-use Rattle.llbuild_cli.specs.Text.{lines_of, summary_text}
+use Rattle.build_report.specs.Text.{lines_of, summary_text}
 use Rattle.llbuild_cli.proofs.ProgressLemmas.{moved_both, moved_stayed}
 use Rattle.llbuild_cli.proofs.SinkLemmas.{Grew-none}
 use Rattle.llbuild_cli.proofs.StopLemmas.{no_part}

@@ -9,7 +9,7 @@ use Rattle.manifest_reader.specs.declared.command.Command.{Command}
 use Rattle.build_meaning.proofs.PlaceLemmas.{In-left, In-either, In-one, In-get, map-append}
 use Rattle.build_meaning.proofs.FreshLemmas.{Fresh-more}
 use Rattle.build_meaning.specs.Fresh.{Does, Sights, IsMade, source}
-use Rattle.llbuild_cli.specs.declared.report.StatSeen.{StatSeen}
+use Rattle.build_report.specs.declared.report.StatSeen.{StatSeen}
 use Rattle.llbuild_cli.specs.Journal.{Journal, Knows, IsUnknown, unused}
 use Rattle.llbuild_cli.specs.Look.{IsNew, Looked}
 use Rattle.llbuild_cli.specs.Move.{Moved}

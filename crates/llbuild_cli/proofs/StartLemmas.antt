@@ -8,7 +8,7 @@ use Rattle.build_meaning.specs.Need.{IsNeeded, wants, needs, AreMarks}
 use Rattle.build_meaning.specs.Orderly.{AreOrderly}
 use Rattle.build_meaning.proofs.PlaceLemmas.{In-index, In-get, get-map}
 use Rattle.build_meaning.proofs.OrderlyLemmas.{one_place}
-use Rattle.llbuild_cli.specs.declared.report.Start.{Start}
+use Rattle.build_report.specs.declared.report.Start.{Start}
 use Rattle.llbuild_cli.specs.Start.{start_of, starts_of, AreStarts, AllStarted}
 
 -- the marked command of a start

@@ -11,13 +11,13 @@ use Rattle.outside.specs.declared.order.Exit.{Exit}
 use Rattle.outside.specs.declared.order.Order.{Order}
 use Rattle.file_info.specs.declared.node.Read.{Read}
 use Rattle.build_meaning.specs.Fresh.{Does}
-use Rattle.llbuild_cli.specs.declared.report.Outcome.TheVariants.{Failed}
+use Rattle.build_report.specs.declared.report.Outcome.TheVariants.{Failed}
 use Rattle.llbuild_cli.specs.OrderEnd.{IsSettleStop}
 use Rattle.build_meaning.specs.Need.{IsNeeded, AreMarks}
 use Rattle.build_meaning.specs.Orderly.{AreOrderly}
 use Rattle.build_meaning.proofs.PlaceLemmas.{In-left, In-either, In-one, map-append}
-use Rattle.llbuild_cli.specs.declared.report.Heard.{Heard}
-use Rattle.llbuild_cli.specs.declared.report.Start.{Start}
+use Rattle.build_report.specs.declared.report.Heard.{Heard}
+use Rattle.build_report.specs.declared.report.Start.{Start}
 use Rattle.llbuild_cli.specs.declared.stop.Stop.{Stop}
 use Rattle.llbuild_cli.specs.declared.stop.Stop.TheVariants.{CommandFailed, MissingInput, DiskFault, SinkFault, NoMemory}
 use Rattle.llbuild_cli.specs.MissingInput.{IsNext}
@@ -26,7 +26,7 @@ use Rattle.llbuild_cli.specs.Outcome.{AreOrders, AllDone, AllEnded, IsDone, IsOr
 use Rattle.llbuild_cli.specs.Output.{nothing, line, summary, WrotePart, WroteStopped}
 use Rattle.llbuild_cli.specs.Start.{start_of, starts_of, AreStarts, AllStarted, IsNextStart}
 use Rattle.llbuild_cli.specs.Growth.{GrewByPart}
-use Rattle.llbuild_cli.specs.Text.{line_of, lines_from, lines_of, summary_text}
+use Rattle.build_report.specs.Text.{line_of, lines_from, lines_of, summary_text}
 use Rattle.llbuild_cli.proofs.SinkLemmas.{Grew-both}
 use Rattle.llbuild_cli.proofs.StartLemmas.{start_names, starts_more, are_starts, not_started, was_started}
 use Rattle.std.specs.Prelude.{slice_get, Some, true}

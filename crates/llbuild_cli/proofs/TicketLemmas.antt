@@ -6,9 +6,9 @@ use Rattle.file_info.specs.Lists.{IsDistinct}
 use Rattle.outside.specs.declared.world.NoFault.{NoFault}
 use Rattle.manifest_reader.specs.declared.command.Command.{Command}
 use Rattle.build_meaning.proofs.PlaceLemmas.{In-index, In-get, get-less, get-map}
-use Rattle.llbuild_cli.specs.declared.report.Heard.{Heard}
-use Rattle.llbuild_cli.specs.declared.report.Report.{Report}
-use Rattle.llbuild_cli.specs.declared.report.Start.{Start}
+use Rattle.build_report.specs.declared.report.Heard.{Heard}
+use Rattle.build_report.specs.declared.report.Report.{Report}
+use Rattle.build_report.specs.declared.report.Start.{Start}
 use Rattle.llbuild_cli.specs.Outcome.{AreInStep, AreOrders, AllEnded, heard_names}
 use Rattle.llbuild_cli.specs.Run.{AreOrdersOf, EachEnded}
 use Rattle.llbuild_cli.proofs.JournalLemmas.{get_some}

@@ -8,9 +8,9 @@ use Rattle.outside.specs.declared.order.Exit.{Exit}
 use Rattle.manifest_reader.specs.declared.command.Command.{Command}
 use Rattle.manifest_reader.specs.declared.command.TargetEntry.{TargetEntry}
 use Rattle.build_meaning.specs.Commands.{meaning_of}
-use Rattle.llbuild_cli.specs.declared.report.Heard.{Heard}
-use Rattle.llbuild_cli.specs.declared.report.Outcome.TheVariants.{Failed}
-use Rattle.llbuild_cli.specs.declared.report.Start.{Start}
+use Rattle.build_report.specs.declared.report.Heard.{Heard}
+use Rattle.build_report.specs.declared.report.Outcome.TheVariants.{Failed}
+use Rattle.build_report.specs.declared.report.Start.{Start}
 use Rattle.llbuild_cli.specs.declared.stop.Stop.{Stop}
 use Rattle.llbuild_cli.specs.declared.stop.Stop.TheVariants.{CommandFailed, MissingInput, DiskFault, SinkFault, NoMemory}
 use Rattle.llbuild_cli.specs.MissingInput.{IsStuck}
@@ -18,7 +18,7 @@ use Rattle.llbuild_cli.specs.Outcome.{IsDone, AllDone, AllEnded}
 use Rattle.llbuild_cli.specs.CommandRun.{IsOutput}
 use Rattle.llbuild_cli.specs.Input.{IsFirstMissing}
 use Rattle.llbuild_cli.specs.Start.{start_of}
-use Rattle.llbuild_cli.specs.Text.{line_of}
+use Rattle.build_report.specs.Text.{line_of}
 use Rattle.llbuild_cli.specs.Growth.{GrewByPart}
 
 -- the command was not started, and nothing was written

@@ -20,7 +20,7 @@ use Rattle.manifest_reader.specs.declared.command.Input.{Input}
 use Rattle.manifest_reader.specs.FileManifest.{IsServed}
 use Rattle.build_meaning.specs.Commands.{meaning_of}
 use Rattle.build_meaning.specs.Fresh.{Does}
-use Rattle.llbuild_cli.specs.declared.report.Heard.{Heard}
+use Rattle.build_report.specs.declared.report.Heard.{Heard}
 use Rattle.llbuild_cli.specs.Journal.{Journal, Knows}
 use Rattle.llbuild_cli.specs.Look.{Looked}
 use Rattle.llbuild_cli.specs.Sight.{GivesInfo}

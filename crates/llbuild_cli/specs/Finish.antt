@@ -1,9 +1,9 @@
 -- How the end of a run is reported.
 use Rattle.std.specs.Prelude.{Result, Ok, Err}
 use Rattle.outside.specs.declared.world.NoFault.{NoFault}
-use Rattle.llbuild_cli.specs.declared.report.End.{End}
-use Rattle.llbuild_cli.specs.declared.report.End.TheVariants as ends
-use Rattle.llbuild_cli.specs.declared.report.Report.{Report}
+use Rattle.build_report.specs.declared.report.End.{End}
+use Rattle.build_report.specs.declared.report.End.TheVariants as ends
+use Rattle.build_report.specs.declared.report.Report.{Report}
 
 -- the end that a result stands for
 abbrev pub end_in : Result (Unit {0}) (End NoFault) → End NoFault

@@ -2,9 +2,9 @@
 use Rattle.std.specs.Prelude.{◌≡◌, ℕ, List, [], Option, Some}
 use Rattle.file_info.specs.Lists.{IsDistinct}
 use Rattle.file_info.specs.declared.info.Info.{Info}
-use Rattle.llbuild_cli.specs.declared.report.Heard.{Heard}
-use Rattle.llbuild_cli.specs.declared.report.Start.{Start}
-use Rattle.llbuild_cli.specs.declared.report.StatSeen.{StatSeen}
+use Rattle.build_report.specs.declared.report.Heard.{Heard}
+use Rattle.build_report.specs.declared.report.Start.{Start}
+use Rattle.build_report.specs.declared.report.StatSeen.{StatSeen}
 use Rattle.llbuild_cli.specs.Sight.{Shows, IsSingle, sources_of}
 
 -- the lists of a report, as far as they have come

@@ -10,10 +10,6 @@ pub mod CommandRun
 pub mod OrderEnd
 pub mod Stands
 pub mod Stop
-pub mod Escape
-pub mod ErrorText
-pub mod Text
-pub mod Status
 pub mod Job
 pub mod Plan
 pub mod Source

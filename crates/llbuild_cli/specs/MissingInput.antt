@@ -6,8 +6,8 @@ use Rattle.manifest_reader.specs.declared.command.Command.{Command}
 use Rattle.manifest_reader.specs.declared.command.Input.{Input}
 use Rattle.manifest_reader.specs.declared.command.TargetEntry.{TargetEntry}
 use Rattle.build_meaning.specs.Need.{IsNeeded}
-use Rattle.llbuild_cli.specs.declared.report.Heard.{Heard}
-use Rattle.llbuild_cli.specs.declared.report.Start.{Start}
+use Rattle.build_report.specs.declared.report.Heard.{Heard}
+use Rattle.build_report.specs.declared.report.Start.{Start}
 use Rattle.llbuild_cli.specs.declared.stop.Stop.{Stop}
 use Rattle.llbuild_cli.specs.declared.stop.Stop.TheVariants.{MissingInput, NoMemory}
 use Rattle.llbuild_cli.specs.Outcome.{AllDone, AllEnded}

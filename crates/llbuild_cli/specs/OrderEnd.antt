@@ -6,8 +6,8 @@ use Rattle.outside.specs.View.{Rose, Told, DiskView}
 use Rattle.outside.specs.declared.order.Ended.{Ended}
 use Rattle.outside.specs.declared.order.Exit.TheVariants.{Code}
 use Rattle.outside.specs.declared.order.Order.{Order}
-use Rattle.llbuild_cli.specs.declared.report.Heard.{Heard}
-use Rattle.llbuild_cli.specs.declared.report.Outcome.TheVariants.{Failed, Done}
+use Rattle.build_report.specs.declared.report.Heard.{Heard}
+use Rattle.build_report.specs.declared.report.Outcome.TheVariants.{Failed, Done}
 use Rattle.llbuild_cli.specs.declared.stop.Stop.{Stop}
 use Rattle.llbuild_cli.specs.declared.stop.Stop.TheVariants.{CommandFailed, MissingInput, DiskFault, SinkFault, NoMemory}
 use Rattle.llbuild_cli.specs.Journal.{Journal}

@@ -12,10 +12,10 @@ use Rattle.outside.specs.declared.order.Exit.TheVariants.{Code}
 use Rattle.manifest_reader.specs.declared.command.Command.{Command}
 use Rattle.build_meaning.specs.Commands.{meaning_of}
 use Rattle.build_meaning.specs.Fresh.{Does}
-use Rattle.llbuild_cli.specs.declared.report.Heard.{Heard}
-use Rattle.llbuild_cli.specs.declared.report.Outcome.{Outcome}
-use Rattle.llbuild_cli.specs.declared.report.Outcome.TheVariants.{Failed, Done}
-use Rattle.llbuild_cli.specs.declared.report.Start.{Start}
+use Rattle.build_report.specs.declared.report.Heard.{Heard}
+use Rattle.build_report.specs.declared.report.Outcome.{Outcome}
+use Rattle.build_report.specs.declared.report.Outcome.TheVariants.{Failed, Done}
+use Rattle.build_report.specs.declared.report.Start.{Start}
 
 -- the outcome that an exit gives: a failure with it, exactly where it is not the status 0
 abbrev pub IsOutcomeOf : Exit → Order → Outcome → Type 0

@@ -1,10 +1,10 @@
 -- What a build has written on standard output.
 use Rattle.std.specs.Prelude.{◌+◌, ◌++◌, ℕ, List, [], length, take}
 use Rattle.outside.specs.View.{Grew, SinkView}
-use Rattle.llbuild_cli.specs.declared.report.Start.{Start}
+use Rattle.build_report.specs.declared.report.Start.{Start}
 use Rattle.llbuild_cli.specs.declared.stop.Stop.{Stop}
 use Rattle.llbuild_cli.specs.declared.stop.Stop.TheVariants as stops
-use Rattle.llbuild_cli.specs.Text.{line_of, lines_of, summary_text}
+use Rattle.build_report.specs.Text.{line_of, lines_of, summary_text}
 
 -- what may be written next: nothing, the line of a start that is next, or, after the last start, the summary
 pub data IsNextText (is_next : Start → Type 0) (is_last : Type 0) (starts : List Start) : List ℕ → Type 0 where

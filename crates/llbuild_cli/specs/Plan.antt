@@ -15,10 +15,10 @@ use Rattle.manifest_reader.specs.Manifest.{ManifestLists}
 use Rattle.manifest_reader.specs.Places.{target_named}
 use Rattle.llbuild_cli.specs.declared.refusal.Refusal.{Refusal}
 use Rattle.llbuild_cli.specs.declared.refusal.Refusal.TheVariants as refusals
-use Rattle.llbuild_cli.specs.declared.report.End.{End}
-use Rattle.llbuild_cli.specs.declared.report.End.TheVariants as ends
+use Rattle.build_report.specs.declared.report.End.{End}
+use Rattle.build_report.specs.declared.report.End.TheVariants as ends
 use Rattle.llbuild_cli.specs.declared.words.Job.{Job}
-use Rattle.llbuild_cli.specs.declared.words.UsageFault.TheVariants.{Words}
+use Rattle.build_report.specs.declared.report.UsageFault.TheVariants.{Words}
 use Rattle.llbuild_cli.specs.Job.{job_of}
 
 -- the most bytes that a manifest has

@@ -15,12 +15,12 @@ use Rattle.manifest_reader.specs.declared.command.Input.{Input}
 use Rattle.build_meaning.specs.Commands.{meaning_of}
 use Rattle.build_meaning.specs.Fresh.{Does, Fresh}
 use Rattle.llbuild_cli.specs.declared.refusal.Refusal.{Refusal}
-use Rattle.llbuild_cli.specs.declared.report.End.{End}
-use Rattle.llbuild_cli.specs.declared.report.End.TheVariants as ends
-use Rattle.llbuild_cli.specs.declared.report.Heard.{Heard}
-use Rattle.llbuild_cli.specs.declared.report.Outcome.TheVariants.{Failed}
-use Rattle.llbuild_cli.specs.declared.report.Report.{Report}
-use Rattle.llbuild_cli.specs.declared.report.Start.{Start}
+use Rattle.build_report.specs.declared.report.End.{End}
+use Rattle.build_report.specs.declared.report.End.TheVariants as ends
+use Rattle.build_report.specs.declared.report.Heard.{Heard}
+use Rattle.build_report.specs.declared.report.Outcome.TheVariants.{Failed}
+use Rattle.build_report.specs.declared.report.Report.{Report}
+use Rattle.build_report.specs.declared.report.Start.{Start}
 use Rattle.llbuild_cli.specs.declared.stop.Stop.{Stop}
 use Rattle.llbuild_cli.specs.declared.stop.Stop.TheVariants as stops
 use Rattle.llbuild_cli.specs.MissingInput.{IsStuck, IsStartOn, IsOrderOn}
@@ -35,7 +35,7 @@ use Rattle.llbuild_cli.specs.Sight.{Shows, IsSingle, sights_of}
 use Rattle.llbuild_cli.specs.Source.{AreSources}
 use Rattle.llbuild_cli.specs.Start.{AreStarts, AllStarted, IsNextStart}
 use Rattle.llbuild_cli.specs.Stop.{end_after}
-use Rattle.llbuild_cli.specs.Text.{lines_of, summary_text}
+use Rattle.build_report.specs.Text.{lines_of, summary_text}
 
 -- what a world answers, and the law of its commands
 pub record Answers : Type 1 where

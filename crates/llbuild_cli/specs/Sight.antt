@@ -3,10 +3,10 @@ use Rattle.std.specs.Prelude.{◌≡◌, ◌⊎◌, ℕ, List, map, slice_get, S
 use Rattle.file_info.specs.Lists.{In}
 use Rattle.file_info.specs.declared.info.Info.{Info}
 use Rattle.build_meaning.specs.Fresh.{Sights}
-use Rattle.llbuild_cli.specs.declared.report.Heard.{Heard}
-use Rattle.llbuild_cli.specs.declared.report.Outcome.{Outcome}
-use Rattle.llbuild_cli.specs.declared.report.Outcome.TheVariants.{Failed, Done}
-use Rattle.llbuild_cli.specs.declared.report.StatSeen.{StatSeen}
+use Rattle.build_report.specs.declared.report.Heard.{Heard}
+use Rattle.build_report.specs.declared.report.Outcome.{Outcome}
+use Rattle.build_report.specs.declared.report.Outcome.TheVariants.{Failed, Done}
+use Rattle.build_report.specs.declared.report.StatSeen.{StatSeen}
 
 -- the source paths that were asked for, with what stood there
 abbrev pub sights_of : List StatSeen → Sights

@@ -4,7 +4,7 @@ use Rattle.file_info.specs.Lists.{In, IsDistinct}
 use Rattle.manifest_reader.specs.declared.command.Command.{Command}
 use Rattle.build_meaning.specs.Fresh.{IsMade}
 use Rattle.build_meaning.specs.Need.{IsNeeded}
-use Rattle.llbuild_cli.specs.declared.report.StatSeen.{StatSeen}
+use Rattle.build_report.specs.declared.report.StatSeen.{StatSeen}
 use Rattle.llbuild_cli.specs.Plan.{Plan}
 use Rattle.llbuild_cli.specs.CommandRun.{IsInput}
 use Rattle.llbuild_cli.specs.Sight.{sources_of}

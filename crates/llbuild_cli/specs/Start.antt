@@ -4,8 +4,8 @@ use Rattle.file_info.specs.Lists.{In, IsDistinct}
 use Rattle.manifest_reader.specs.declared.command.Command.{Command}
 use Rattle.manifest_reader.specs.declared.command.Input.{Input}
 use Rattle.build_meaning.specs.Need.{IsNeeded}
-use Rattle.llbuild_cli.specs.declared.report.Start.{Start}
-use Rattle.llbuild_cli.specs.declared.report.Reason.TheVariants.{NeverBuilt}
+use Rattle.build_report.specs.declared.report.Start.{Start}
+use Rattle.build_report.specs.declared.report.Reason.TheVariants.{NeverBuilt}
 
 -- the description, or the name where there is none
 abbrev pub shown_of : Option (List ℕ) → List ℕ → List ℕ

@@ -6,8 +6,8 @@ use Rattle.outside.specs.View.{Rose}
 use Rattle.outside.specs.declared.disk.DiskError.{DiskError}
 use Rattle.outside.specs.declared.disk.DiskError.TheVariants as errors
 use Rattle.manifest_reader.specs.declared.command.Input.{Input}
-use Rattle.llbuild_cli.specs.declared.report.End.{End}
-use Rattle.llbuild_cli.specs.declared.report.End.TheVariants as ends
+use Rattle.build_report.specs.declared.report.End.{End}
+use Rattle.build_report.specs.declared.report.End.TheVariants as ends
 use Rattle.llbuild_cli.specs.declared.stop.Stop.{Stop}
 use Rattle.llbuild_cli.specs.declared.stop.Stop.TheVariants.{CommandFailed, MissingInput, DiskFault, SinkFault, NoMemory}
 use Rattle.llbuild_cli.specs.Input.{SeenAs, IsFirstMissing, IsUnseen, IsFirstUnseen, WereRead}

@@ -6,12 +6,12 @@ ghost use Rattle.memory_world.specs.Exit.{IsToyExit};
 ghost use Rattle.memory_world.specs.Toy.{ToyDoes};
 ghost use Rattle.llbuild_cli.specs.InMemory.{FreshInMemory, seen_in};
 ghost use Rattle.llbuild_cli.specs.Run.{Served, answers_of, run_of};
-ghost use Rattle.llbuild_cli.specs.Status.{status_of};
-ghost use Rattle.llbuild_cli.specs.Text.{failure_text, lines_of, summary_text};
+ghost use Rattle.build_report.specs.Status.{status_of};
+ghost use Rattle.build_report.specs.Text.{failure_text, lines_of, summary_text};
 ghost use Rattle.llbuild_cli.specs.Growth.{WroteUnlessFault};
 
-use crate::report::{End, Finish};
 use crate::run::run_alone;
+use build_report::report::{End, Finish};
 use memory_world::memory::MemoryWorld;
 use memory_world::sinks::VecSink;
 use memory_world::toy::ToyLaw;

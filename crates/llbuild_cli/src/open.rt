@@ -10,7 +10,8 @@ ghost use Rattle.llbuild_cli.specs.Plan.{IsAnswer, IsRefusal};
 ghost use Rattle.llbuild_cli.specs.Job.{job_of};
 
 use crate::refusal::Refusal;
-use crate::words::{Job, UsageFault, read_words};
+use crate::words::{Job, read_words};
+use build_report::report::UsageFault;
 use file_info::copied::Copied;
 use file_info::list::Bytes;
 use manifest_reader::command::TargetEntry;

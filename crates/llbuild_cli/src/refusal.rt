@@ -1,6 +1,5 @@
 //! Why nothing is built.
-use crate::report::End;
-use crate::words::UsageFault;
+use build_report::report::{End, UsageFault};
 use file_info::list::Bytes;
 use file_info::memory::NoMemory;
 use file_info::path::PathName;

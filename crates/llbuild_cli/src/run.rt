@@ -3,16 +3,16 @@ ghost use Rattle.std.specs.Prelude.{◌≡◌, ◌⊎◌, ◌≤◌, ◌+◌, []
 ghost use Rattle.llbuild_cli.specs.Journal.{unused};
 ghost use Rattle.llbuild_cli.specs.Run.{Served, answers_of, run_of, report_of};
 ghost use Rattle.llbuild_cli.specs.Finish.{end_in, without_memory};
-ghost use Rattle.llbuild_cli.specs.Status.{status_of};
-ghost use Rattle.llbuild_cli.specs.Text.{failure_text};
+ghost use Rattle.build_report.specs.Status.{status_of};
+ghost use Rattle.build_report.specs.Text.{failure_text};
 ghost use Rattle.llbuild_cli.specs.Growth.{WroteUnlessFault};
 
-use crate::build::build;
 use crate::open::{Opened, open, target_in};
 use crate::put_all::put_all;
-use crate::report::{End, Finish, Report};
-use crate::seen::Seen;
-use crate::texts::{failure_text, status};
+use crate::serial::build::build;
+use crate::serial::seen::Seen;
+use build_report::report::{End, Finish, Report};
+use build_report::texts::{failure_text, status};
 use outside::law::Law;
 use outside::sink::Sink;
 use outside::world::{NoFault, World};

@@ -1,5 +1,5 @@
 //! What stops a build before its end.
-use crate::report::End;
+use build_report::report::End;
 use file_info::memory::NoMemory;
 use file_info::name::Name;
 use outside::disk::DiskError;

@@ -3,18 +3,10 @@ ghost use Rattle.std.specs.Prelude.{◌≡◌, ◌⊎◌, Some, None, map, strin
 ghost use Rattle.std.specs.Str.{is_utf8};
 ghost use Rattle.llbuild_cli.specs.Job.{is_form, job_of, path_of};
 
+use build_report::report::UsageFault;
 use file_info::list::{Bytes, List};
 use file_info::path::{PathError, PathName};
 use std::alloc::Global;
-
-/// Why words are no command line.
-#[derive(Clone, Copy, Debug, PartialEq, Eq)]
-pub enum UsageFault {
-    /// They are not of the form that is served.
-    Words,
-    /// No memory was left.
-    NoMemory,
-}
 
 /// A build that is asked for.
 #[derive(Drop)]
@@ -78,6 +70,3 @@ pub fn read_words(alloc: Global, words: &[String]) -> Result<Job, UsageFault>
         Err(_) => Err(UsageFault::NoMemory),
     }
 }
-
-#[cfg(test)]
-mod tests;

@@ -3,7 +3,7 @@ use Rattle.std.specs.Prelude.{ℕ, List, [], None}
 use Rattle.outside.specs.declared.order.Order.{Order}
 use Rattle.outside.specs.View.{DiskView, SinkView, untold}
 use Rattle.real_world.specs.declared.std_sink.StdSink.{StdSink}
-use Rattle.real_world.specs.declared.world.RealDisk.{RealDisk}
+use Rattle.real_world.specs.declared.disk.RealDisk.{RealDisk}
 use Rattle.real_world.specs.declared.world.RealWorld.{RealWorld}
 
 -- how often the stream has failed
@@ -25,7 +25,7 @@ disk_view d = untold (disk_faults d) [] 0
 module _ {A B C D E F G : Type 0} where
   -- how often the files or the programs of the world have failed
   abbrev pub world_faults : RealWorld A B C D E F G → ℕ
-  world_faults w = w.faults
+  world_faults w = disk_faults w.disk
 
   -- the orders that wait, the oldest first
   abbrev pub waiting_orders : RealWorld A B C D E F G → List Order

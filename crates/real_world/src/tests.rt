@@ -1,4 +1,4 @@
-use crate::world::RealDisk;
+use crate::disk::RealDisk;
 use file_info::info::{Form, Info};
 use file_info::path::PathName;
 use outside::disk::{Disk, FileBytes};

@@ -2,7 +2,7 @@
 ghost use Rattle.std.specs.Prelude.{◌≡◌, ℕ, ◌+◌, ◌<◌, ◌≤◌, [], ◌∷◌, ◌++◌, length, IfOk, OnOk, OnErr, IsErrOf};
 ghost use Rattle.real_world.specs.Count.{count_after};
 
-use crate::files::{bytes_of, disk_error, info_of};
+use crate::disk::{RealDisk, answer};
 use crate::programs::Programs;
 use crate::spawn::perform;
 use file_info::info::{Form, Info};
@@ -13,57 +13,17 @@ use outside::order::{Ended, Exit, Order};
 use outside::world::World;
 use std::alloc::Global;
 use std::collections::VecDeque;
-use std::io;
 use std::process::Processes;
 use std::rt::{Env, Files};
-
-/// The files of this machine, seen from the folder of this process. That nothing stands at a path is an answer; any other failure
-/// is a fault, or want of memory.
-#[derive(Drop)]
-pub struct RealDisk<R: Files + AllocGlobal + Drop> {
-    rt: R,
-    pub(crate) faults: u64,
-}
 
 /// The files, and the programs that run on them. An order that is begun waits; `end` runs the oldest. A program that cannot be
 /// started is a fault, and then no order waits any more.
 #[derive(Drop)]
 pub struct RealWorld<R: Files + Env + AllocGlobal + Processes + Drop> {
-    rt: R,
-    faults: u64,
+    disk: RealDisk<R>,
     waiting: VecDeque<Order>,
     begins: u64,
     programs: Programs,
-}
-
-// The answer of a call. A fault raises the count, and want of memory does not.
-fn answer<T: Drop>(faults: &mut u64, outcome: io::Result<T>) -> Result<T, DiskError>
-    ensures faults { faults.new ≡ count_after result faults.old }
-    ensures later { faults.old ≤ faults.new }
-    ensures here { IsErrOf result DiskError.NotDirectory → ⊥ }
-{
-    match outcome {
-        Ok(value) => Ok(value),
-        Err(error) => {
-            let why = disk_error(&error);
-            if why == DiskError::Fault {
-                let before = *faults;
-                *faults = before.saturating_add(1);
-            }
-            Err(why)
-        }
-    }
-}
-
-impl<R: Files + AllocGlobal + Drop> RealDisk<R> {
-    ghost use Rattle.real_world.specs.View.{disk_faults};
-
-    /// The disk, which has not failed yet.
-    pub fn new(rt: R) -> RealDisk<R>
-        ensures { disk_faults result ≡ 0 }
-    {
-        RealDisk { rt, faults: 0 }
-    }
 }
 
 impl<R: Files + Env + AllocGlobal + Processes + Drop> RealWorld<R> {
@@ -77,46 +37,11 @@ impl<R: Files + Env + AllocGlobal + Processes + Drop> RealWorld<R> {
     {
         let alloc = rt.alloc();
         RealWorld {
-            rt,
-            faults: 0,
+            disk: RealDisk::new(rt),
             waiting: VecDeque::new(alloc),
             begins: 0,
             programs: Programs::new(alloc),
         }
-    }
-}
-
-impl<L: Law, R: Files + AllocGlobal + Drop> Disk<L> for RealDisk<R> {
-    ghost use Rattle.std.specs.Prelude.{⊤};
-    ghost use Rattle.real_world.specs.View.{disk_faults, disk_view};
-    ghost use Rattle.outside.specs.View.{Stayed, HasCause};
-
-    ghost view = { disk_view };
-
-    ghost gave = { λ p most b. ⊤ };
-
-    ghost leads_to_no_link = { λ d p text t e. t };
-
-    ghost tells_infos = { λ d m t. t };
-
-    fn stat(&mut self, _alloc: Global, path: &PathName, form: Form) -> Result<Info, DiskError>
-        ensures stayed { Stayed (disk_view self.old) (disk_view self.new) }
-        ensures faults { disk_faults self.new ≡ count_after result (disk_faults self.old) }
-        ensures here { IsErrOf result DiskError.NotDirectory → ⊥ }
-        ensures cause { HasCause (disk_view self.old) (disk_view self.new) result }
-    {
-        let outcome = info_of(&self.rt, path, form);
-        answer(&mut self.faults, outcome)
-    }
-
-    fn read(&mut self, _alloc: Global, path: &PathName, most: u64) -> Result<FileBytes, DiskError>
-        ensures stayed { Stayed (disk_view self.old) (disk_view self.new) }
-        ensures faults { disk_faults self.new ≡ count_after result (disk_faults self.old) }
-        ensures here { IsErrOf result DiskError.NotDirectory → ⊥ }
-        ensures cause { HasCause (disk_view self.old) (disk_view self.new) result }
-    {
-        let outcome = bytes_of(&self.rt, path, most);
-        answer(&mut self.faults, outcome)
     }
 }
 
@@ -133,24 +58,22 @@ impl<L: Law, R: Files + Env + AllocGlobal + Processes + Drop> Disk<L> for RealWo
 
     ghost tells_infos = { λ w m t. t };
 
-    fn stat(&mut self, _alloc: Global, path: &PathName, form: Form) -> Result<Info, DiskError>
+    fn stat(&mut self, alloc: Global, path: &PathName, form: Form) -> Result<Info, DiskError>
         ensures stayed { Stayed (world_view self.old) (world_view self.new) }
         ensures faults { world_faults self.new ≡ count_after result (world_faults self.old) }
         ensures here { IsErrOf result DiskError.NotDirectory → ⊥ }
         ensures cause { HasCause (world_view self.old) (world_view self.new) result }
     {
-        let outcome = info_of(&self.rt, path, form);
-        answer(&mut self.faults, outcome)
+        Disk::<L>::stat(&mut self.disk, alloc, path, form)
     }
 
-    fn read(&mut self, _alloc: Global, path: &PathName, most: u64) -> Result<FileBytes, DiskError>
+    fn read(&mut self, alloc: Global, path: &PathName, most: u64) -> Result<FileBytes, DiskError>
         ensures stayed { Stayed (world_view self.old) (world_view self.new) }
         ensures faults { world_faults self.new ≡ count_after result (world_faults self.old) }
         ensures here { IsErrOf result DiskError.NotDirectory → ⊥ }
         ensures cause { HasCause (world_view self.old) (world_view self.new) result }
     {
-        let outcome = bytes_of(&self.rt, path, most);
-        answer(&mut self.faults, outcome)
+        Disk::<L>::read(&mut self.disk, alloc, path, most)
     }
 }
 
@@ -196,8 +119,8 @@ impl<L: Law, R: Files + Env + AllocGlobal + Processes + Drop> World<L> for RealW
         let Some(order) = self.waiting.pop_front() else {
             unreachable!()
         };
-        let outcome = perform(&self.rt, alloc, &mut self.programs, &order);
-        match answer(&mut self.faults, outcome) {
+        let outcome = perform(&self.disk.rt, alloc, &mut self.programs, &order);
+        match answer(&mut self.disk.faults, outcome) {
             Ok(exit) => Ok(Ended { order, exit }),
             Err(error) => {
                 self.waiting.clear();

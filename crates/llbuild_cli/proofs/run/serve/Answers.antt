@@ -2,7 +2,7 @@ use Rattle.std.proofs.Common.{refl, sym, ap, map}
 use Rattle.std.specs.Prelude.{string_bytes, Result, Ok, Err}
 use Rattle.std.specs.Global.{Global}
 use Rattle.outside.specs.declared.world.NoFault.{NoFault}
-use Rattle.llbuild_cli.specs.declared.report.End.{End}
+use Rattle.build_report.specs.declared.report.End.{End}
 use Rattle.llbuild_cli.specs.declared.refusal.Refusal.TheVariants.{UnknownTarget}
 use Rattle.llbuild_cli.specs.Plan.{Plan, refused_end}
 use Rattle.llbuild_cli.specs.Run.{Answers, answers_of}

@@ -1,5 +1,5 @@
 use Rattle.std.proofs.Common.{◌∙◌}
-use Rattle.llbuild_cli.specs.Text.{failure_text}
+use Rattle.build_report.specs.Text.{failure_text}
 use Rattle.llbuild_cli.proofs.SinkLemmas.{written_text}
 use Rattle.llbuild_cli.proofs.run.tell.Goals as goal
 

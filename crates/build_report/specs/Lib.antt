@@ -1,0 +1,4 @@
+pub mod Escape
+pub mod ErrorText
+pub mod Text
+pub mod Status

@@ -1,0 +1,19 @@
+-- The status that the process ends with.
+use Rattle.std.specs.Prelude.{ℕ}
+use Rattle.build_report.specs.declared.report.End.{End}
+use Rattle.build_report.specs.declared.report.End.TheVariants.{Ok, CommandFailed, MissingInput, Usage, NoFile, Manifest, UnknownTarget, DiskFault, HostFault, SinkFault, NoMemory}
+
+-- 0 for success, 1 for a build that failed, 2 for words or a manifest that are refused, 3 for the outside, and 5 for want
+-- of memory
+abbrev pub status_of : {F : Type 0} → End F → ℕ
+status_of Ok = 0
+status_of (CommandFailed command exit) = 1
+status_of (MissingInput asker node) = 1
+status_of (Usage fault) = 2
+status_of (NoFile path) = 2
+status_of (Manifest error) = 2
+status_of (UnknownTarget name) = 2
+status_of DiskFault = 3
+status_of (HostFault command fault) = 3
+status_of SinkFault = 3
+status_of NoMemory = 5

@@ -1,0 +1,490 @@
+//! Whole runs, over worlds in memory and over real files.
+ghost use Rattle.std.specs.Prelude.{◌≡◌, [], IfOk};
+
+use build_report::report::{End, Finish, Heard, Outcome, Reason, Start};
+use file_info::info::Info;
+use file_info::list::{Bytes, List};
+use file_info::path::PathName;
+use llbuild_cli::in_memory::run_in_memory;
+use llbuild_cli::run::run_alone;
+use memory_world::memory::MemoryWorld;
+use memory_world::sinks::VecSink;
+use memory_world::toy::ToyLaw;
+use memory_world::write::What;
+use outside::world::{NoFault, World};
+use real_world::world::RealWorld;
+use std::alloc::Global;
+use std::fs;
+use std::process::Abort;
+use std::test::Fail;
+
+mod words;
+
+const LINE: &str = "buildsystem build --serial --no-db -f m.llbuild all";
+
+// One command, which makes `t` of `s`.
+const ONE: &str =
+    "client:\n  name: basic\ntargets:\n  all: [t]\ncommands:\n  p:\n    tool: shell\n    inputs: [s]\n    outputs: [t]\n    args: [cp, s, t]\n";
+
+// The same command, and a target that needs a source besides.
+const WIDE: &str =
+    "client: {name: basic}\ntargets: {all: [t, ./u]}\ncommands:\n  p: {tool: shell, inputs: [s], outputs: [t], args: [cp, s, t]}\n";
+
+// A chain of three commands, two of which need `s`, and one that the target does not need.
+const CHAIN: &str =
+    "client: {name: basic}\ntargets: {all: [c], rest: [d]}\ncommands:\n  first: {tool: shell, outputs: [a], args: [make, a]}\n  rest: {tool: shell, inputs: [a], outputs: [d], args: [cp, a, d]}\n  second: {tool: shell, inputs: [a, s], outputs: [b], args: [cat, a, s]}\n  third: {tool: shell, inputs: [b, s], outputs: [c], args: [cat, b, s]}\n";
+
+const CHAIN_OUT: &str = "[1] first\n[2] second\n[3] third\nok: 3 started\n";
+
+// What a run in memory meets: the manifest, the text of `s`, the words, the numbers of the calls that fail, and how many
+// bytes `out` takes.
+#[derive(Clone, Copy)]
+struct Setting<'a> {
+    manifest: &'a str,
+    source: Option<&'a str>,
+    line: &'a str,
+    world_fails: &'a [u64],
+    out_fails: &'a [u64],
+    err_fails: &'a [u64],
+    room: usize,
+}
+
+// A run, and what it left.
+#[derive(Drop)]
+struct Ran {
+    finish: Finish<NoFault>,
+    world: MemoryWorld,
+    out: VecSink,
+    err: VecSink,
+}
+
+fn without_faults<'a>(manifest: &'a str, source: Option<&'a str>, line: &'a str) -> Setting<'a> {
+    Setting {
+        manifest,
+        source,
+        line,
+        world_fails: &[],
+        out_fails: &[],
+        err_fails: &[],
+        room: 1000,
+    }
+}
+
+fn numbers(alloc: Global, numbers: &[u64]) -> Result<List<u64>, Fail> {
+    Ok(List::from_vec(Vec::from_slice(alloc, numbers)?))
+}
+
+fn sink(alloc: Global, room: usize, failing: &[u64]) -> Result<VecSink, Fail> {
+    Ok(VecSink::new(alloc, room, numbers(alloc, failing)?)?)
+}
+
+fn words_of(alloc: Global, line: &str) -> Result<Vec<String>, Fail> {
+    let mut words = Vec::new(alloc);
+    for word in line.split(' ') {
+        words.push(String::from_str(alloc, word)?)?;
+    }
+    Ok(words)
+}
+
+// Writes a file.
+fn set(alloc: Global, world: &mut MemoryWorld, at: &str, text: &str) -> Result<(), Fail>
+    ensures { world.new.begun ≡ world.old.begun }
+{
+    let path = PathName::read(alloc, at)?;
+    let text: Bytes = List::from_vec(Vec::from_slice(alloc, text.as_bytes())?);
+    world.set(alloc, &path, text)?;
+    Ok(())
+}
+
+fn world_of(alloc: Global, setting: &Setting<'_>) -> Result<MemoryWorld, Fail>
+    ensures { IfOk result (λ world. world.begun ≡ []) }
+{
+    let mut world = MemoryWorld::new(alloc, numbers(alloc, setting.world_fails)?);
+    set(alloc, &mut world, "m.llbuild", setting.manifest)?;
+    if let Some(text) = setting.source {
+        set(alloc, &mut world, "s", text)?;
+    }
+    Ok(world)
+}
+
+fn run(alloc: Global, setting: &Setting<'_>) -> Result<Ran, Fail> {
+    let words = words_of(alloc, setting.line)?;
+    let mut world = world_of(alloc, setting)?;
+    let mut out = sink(alloc, setting.room, setting.out_fails)?;
+    let mut err = sink(alloc, 1000, setting.err_fails)?;
+    let finish = run_in_memory(alloc, words.as_slice(), &mut world, &mut out, &mut err);
+    Ok(Ran {
+        finish,
+        world,
+        out,
+        err,
+    })
+}
+
+fn end_name(end: &End<NoFault>) -> &'static str {
+    match end {
+        End::Ok => "Ok",
+        End::CommandFailed { .. } => "CommandFailed",
+        End::MissingInput { .. } => "MissingInput",
+        End::Usage(_) => "Usage",
+        End::NoFile { .. } => "NoFile",
+        End::Manifest(_) => "Manifest",
+        End::UnknownTarget { .. } => "UnknownTarget",
+        End::DiskFault => "DiskFault",
+        End::HostFault { .. } => "HostFault",
+        End::SinkFault => "SinkFault",
+        End::NoMemory => "NoMemory",
+    }
+}
+
+// The run ended so, with this status, and wrote this on the sink of errors.
+fn ended(rt: &impl Abort, ran: &Ran, end: &str, status: u8, err: &str) {
+    assert_eq!(rt; end_name(&ran.finish.report.end), end);
+    assert_eq!(rt; ran.finish.status, status);
+    assert_eq!(rt; ran.err.bytes(), err.as_bytes());
+}
+
+// The commands of these names were started, in this order, each with its name shown.
+fn started(rt: &impl Abort, starts: &List<Start>, names: &[&str]) {
+    assert_eq!(rt; starts.len(), names.len());
+    for (start, name) in starts.as_slice().iter().zip(names) {
+        assert_eq!(rt; start.command.text(), *name);
+        assert_eq!(rt; start.shown.as_slice(), name.as_bytes());
+        assert!(rt; matches!(&start.reason, Reason::NeverBuilt));
+    }
+}
+
+// The commands of these names ended with success, in this order.
+fn all_done(rt: &impl Abort, heard: &List<Heard>, names: &[&str]) {
+    assert_eq!(rt; heard.len(), names.len());
+    for (one, name) in heard.as_slice().iter().zip(names) {
+        assert_eq!(rt; one.order.command.text(), *name);
+        assert!(rt; matches!(&one.outcome, Outcome::Done { .. }));
+    }
+}
+
+// The whole build of these commands succeeded: it wrote this, and it asked for `s` once and for nothing else.
+fn built(rt: &impl Abort, ran: &Ran, names: &[&str], out: &str) {
+    ended(rt, ran, "Ok", 0, "");
+    assert_eq!(rt; ran.out.bytes(), out.as_bytes());
+    started(rt, &ran.finish.report.starts, names);
+    all_done(rt, &ran.finish.report.heard, names);
+    assert_eq!(rt; ran.finish.report.stats.len(), 1);
+    for seen in ran.finish.report.stats.as_slice() {
+        assert_eq!(rt; seen.path.text(), "s");
+        assert!(rt; matches!(&seen.info, Info::File { .. }));
+    }
+}
+
+// A build of `CHAIN` stopped after so many starts: a beginning of what the whole build writes was written, with a line for
+// each start.
+fn stopped(rt: &impl Abort, ran: &Ran, starts: usize) {
+    let out = ran.out.bytes();
+    let lines = out.iter().filter(|byte| **byte == b'\n').count();
+    assert!(rt; CHAIN_OUT.as_bytes().starts_with(out));
+    assert_eq!(rt; lines, starts);
+    assert_eq!(rt; ran.finish.report.starts.len(), starts);
+}
+
+// The last write left a file with these bytes at this path.
+fn wrote_last(rt: &impl Abort, world: &MemoryWorld, path: &str, text: &[u8]) {
+    let Some(write) = world.writes().last() else {
+        return assert!(rt; false);
+    };
+    assert_eq!(rt; write.path.text(), path);
+    match &write.what {
+        What::Bytes(bytes) => assert_eq!(rt; bytes.as_slice(), text),
+        _ => assert!(rt; false),
+    }
+}
+
+// What another program gave for the digest of the command of `ONE` on the source `one`.
+const DIGEST: [u8; 32] = [
+    0xcf, 0x6e, 0x4c, 0xf7, 0x06, 0x0b, 0xfa, 0x76, 0x1b, 0xa0, 0xd7, 0x96, 0xf5, 0x49, 0x6c, 0x06,
+    0xf3, 0x99, 0x65, 0x4c, 0x29, 0x17, 0xf8, 0x34, 0x17, 0x55, 0xc7, 0xde, 0x38, 0xf7, 0xe2, 0x6c,
+];
+
+#[test]
+fn needed_commands_are_built(rt: HostRuntime) -> Result<(), Fail> {
+    let one = run(rt.alloc(), &without_faults(ONE, Some("one"), LINE))?;
+    built(&rt, &one, &["p"], "[1] p\nok: 1 started\n");
+    wrote_last(&rt, &one.world, "t", DIGEST.as_slice());
+    let chain = run(rt.alloc(), &without_faults(CHAIN, Some("one"), LINE))?;
+    built(&rt, &chain, &["first", "second", "third"], CHAIN_OUT);
+    Ok(())
+}
+
+// Runs that end with another end than `Ok`: the manifest, the text of `s`, the words, and then the end, the status and
+// what is written.
+const ROWS: [(&str, Option<&str>, &str, &str, u8, &str, &str); 12] = [
+    (
+        ONE,
+        None,
+        LINE,
+        "MissingInput",
+        1,
+        "",
+        "error: p needs s, which is missing\n",
+    ),
+    (
+        WIDE,
+        Some("one"),
+        LINE,
+        "MissingInput",
+        1,
+        "[1] p\n",
+        "error: all needs ./u, which is missing\n",
+    ),
+    (
+        ONE,
+        Some("one\nfail\n"),
+        LINE,
+        "CommandFailed",
+        1,
+        "[1] p\n",
+        "error: command p ended with status 1\n",
+    ),
+    (
+        CHAIN,
+        Some("fail"),
+        LINE,
+        "CommandFailed",
+        1,
+        "[1] first\n[2] second\n",
+        "error: command second ended with status 1\n",
+    ),
+    (
+        "client: {name: basic}\n",
+        None,
+        LINE,
+        "Manifest",
+        2,
+        "",
+        "error: manifest: not yet\n",
+    ),
+    (
+        "client: *name\n",
+        None,
+        LINE,
+        "Manifest",
+        2,
+        "",
+        "error: manifest: left out at byte 8: alias\n",
+    ),
+    (
+        ONE,
+        Some("one"),
+        "buildsystem build --serial -f m.llbuild all",
+        "Usage",
+        2,
+        "",
+        "error: usage: the words are refused\n",
+    ),
+    (
+        ONE,
+        Some("one"),
+        "buildsystem build --serial --no-db -f m.llbuild all t",
+        "Usage",
+        2,
+        "",
+        "error: usage: the words are refused\n",
+    ),
+    (
+        ONE,
+        Some("one"),
+        "buildsystem build --serial --no-db -f other/m.llbuild all",
+        "NoFile",
+        2,
+        "",
+        "error: no file other/m.llbuild\n",
+    ),
+    (
+        ONE,
+        Some("one"),
+        "buildsystem build --serial --no-db -f . all",
+        "NoFile",
+        2,
+        "",
+        "error: no file .\n",
+    ),
+    (
+        ONE,
+        Some("one"),
+        "buildsystem build --serial --no-db -f m.llbuild t",
+        "UnknownTarget",
+        2,
+        "",
+        "error: unknown target t\n",
+    ),
+    (
+        ONE,
+        None,
+        "buildsystem build --serial --no-db -f m.llbuild ",
+        "UnknownTarget",
+        2,
+        "",
+        "error: unknown target \n",
+    ),
+];
+
+#[test]
+fn failures_have_their_ends(rt: HostRuntime) -> Result<(), Fail> {
+    for (manifest, source, line, end, status, out, err) in ROWS {
+        let ran = run(rt.alloc(), &without_faults(manifest, source, line))?;
+        ended(&rt, &ran, end, status, err);
+        assert_eq!(rt; ran.out.bytes(), out.as_bytes());
+    }
+    Ok(())
+}
+
+// How many commands of `CHAIN` are started when the first call of the world fails, the second and so on. The manifest is
+// read, each command is begun, awaited and asked for its output, and `s` is asked for once, before the second.
+const STARTED: [usize; 11] = [0, 1, 1, 1, 1, 2, 2, 2, 3, 3, 3];
+
+#[test]
+fn each_call_of_the_world_fails(rt: HostRuntime) -> Result<(), Fail> {
+    for (place, starts) in STARTED.iter().enumerate() {
+        let failing = Setting {
+            world_fails: &[place as u64 + 1],
+            ..without_faults(CHAIN, Some("one"), LINE)
+        };
+        let ran = run(rt.alloc(), &failing)?;
+        ended(&rt, &ran, "DiskFault", 3, "error: the disk failed\n");
+        stopped(&rt, &ran, *starts);
+        assert_eq!(rt; ran.world.faults(), 1);
+        assert_eq!(rt; ran.world.begun(), 0);
+    }
+    Ok(())
+}
+
+// There is one call for each line.
+#[test]
+fn each_call_of_out_fails(rt: HostRuntime) -> Result<(), Fail> {
+    for starts in 0..4_usize {
+        let failing = Setting {
+            out_fails: &[starts as u64 + 1],
+            ..without_faults(CHAIN, Some("one"), LINE)
+        };
+        let ran = run(rt.alloc(), &failing)?;
+        ended(&rt, &ran, "SinkFault", 3, "");
+        stopped(&rt, &ran, starts);
+        assert_eq!(rt; ran.finish.report.heard.len(), starts);
+        assert_eq!(rt; ran.out.faults(), 1);
+    }
+    Ok(())
+}
+
+#[test]
+fn out_has_little_room(rt: HostRuntime) -> Result<(), Fail> {
+    for room in 0..CHAIN_OUT.len() {
+        let little = Setting {
+            room,
+            ..without_faults(CHAIN, Some("one"), LINE)
+        };
+        let ran = run(rt.alloc(), &little)?;
+        ended(&rt, &ran, "SinkFault", 3, "");
+        stopped(&rt, &ran, ran.finish.report.starts.len());
+        assert_eq!(rt; ran.out.bytes().len(), room);
+    }
+    Ok(())
+}
+
+// A fault of `err` changes no end.
+#[test]
+fn err_fails(rt: HostRuntime) -> Result<(), Fail> {
+    let failing = Setting {
+        err_fails: &[1],
+        ..without_faults(ONE, None, LINE)
+    };
+    let ran = run(rt.alloc(), &failing)?;
+    ended(&rt, &ran, "MissingInput", 1, "");
+    assert_eq!(rt; ran.out.bytes(), b"".as_slice());
+    assert_eq!(rt; ran.err.faults(), 1);
+    Ok(())
+}
+
+const REAL_FILE: &str = "llbuild_test.llbuild";
+
+const REAL_OUTPUT: &str = "llbuild_test.o";
+
+// A target for each way in which a real command can end.
+const REAL: &str =
+    "client: {name: basic}\ntargets: {good: [llbuild_test.o], bad: [a], killed: [b], unknown: [c], missing: [d]}\ncommands:\n  touch: {tool: shell, outputs: [llbuild_test.o], args: [touch, llbuild_test.o]}\n  false: {tool: shell, outputs: [a], args: ['false']}\n  kill: {tool: shell, outputs: [b], args: [sh, -c, 'kill -9 $$']}\n  unknown: {tool: shell, outputs: [c], args: [llbuild_test_of_no_program]}\n  copy: {tool: shell, inputs: [llbuild_test_of_no_source], outputs: [d], args: [cp, s, d]}\n";
+
+// The words, the end, the status and what is written.
+const REAL_ROWS: [(&str, &str, u8, &str, &str); 5] = [
+    (
+        "buildsystem build --serial --no-db -f llbuild_test.llbuild good",
+        "Ok",
+        0,
+        "[1] touch\nok: 1 started\n",
+        "",
+    ),
+    (
+        "buildsystem build --serial --no-db -f llbuild_test.llbuild bad",
+        "CommandFailed",
+        1,
+        "[1] false\n",
+        "error: command false ended with status 1\n",
+    ),
+    (
+        "buildsystem build --serial --no-db -f llbuild_test.llbuild killed",
+        "CommandFailed",
+        1,
+        "[1] kill\n",
+        "error: command kill was killed\n",
+    ),
+    (
+        "buildsystem build --serial --no-db -f llbuild_test.llbuild unknown",
+        "DiskFault",
+        3,
+        "[1] unknown\n",
+        "error: the disk failed\n",
+    ),
+    (
+        "buildsystem build --serial --no-db -f llbuild_test.llbuild missing",
+        "MissingInput",
+        1,
+        "",
+        "error: copy needs llbuild_test_of_no_source, which is missing\n",
+    ),
+];
+
+// A run over real files, and what it wrote.
+#[derive(Drop)]
+struct RealRan {
+    finish: Finish<NoFault>,
+    out: VecSink,
+    err: VecSink,
+}
+
+fn run_real(rt: HostRuntime, line: &str) -> Result<RealRan, Fail> {
+    let alloc = rt.alloc();
+    let words = words_of(alloc, line)?;
+    let mut out = sink(alloc, 1000, &[])?;
+    let mut err = sink(alloc, 1000, &[])?;
+    let mut world = RealWorld::new(rt);
+    let finish = run_alone::<ToyLaw, _, _, _>(
+        alloc,
+        words.as_slice(),
+        &mut world,
+        &mut out,
+        &mut err,
+    );
+    Ok(RealRan { finish, out, err })
+}
+
+#[test]
+fn real_commands_have_their_ends(rt: HostRuntime) -> Result<(), Fail> {
+    fs::write(&rt, REAL_FILE, REAL.as_bytes())?;
+    for (line, end, status, out, err) in REAL_ROWS {
+        let ran = run_real(rt, line)?;
+        assert_eq!(rt; end_name(&ran.finish.report.end), end);
+        assert_eq!(rt; ran.finish.status, status);
+        assert_eq!(rt; ran.out.bytes(), out.as_bytes());
+        assert_eq!(rt; ran.err.bytes(), err.as_bytes());
+    }
+    fs::remove_file(&rt, REAL_OUTPUT)?;
+    fs::remove_file(&rt, REAL_FILE)?;
+    Ok(())
+}

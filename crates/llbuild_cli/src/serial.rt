@@ -1,0 +1,8 @@
+//! A build of one target from nothing, one command after the other.
+mod announce;
+pub mod build;
+mod execute;
+mod look;
+mod reach;
+pub mod seen;
+mod settle;
