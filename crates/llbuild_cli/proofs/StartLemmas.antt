@@ -1,5 +1,5 @@
 -- The starts of the marked commands.
-use Rattle.std.proofs.Common.{◌≡◌, ◌<◌, ℕ, zero, suc, ◌+◌, Bool, true, false, List, [], ◌∷◌, ◌++◌, map, take, refl, sym, ◌∙◌, ap, inl, inr, arith, add-one}
+use Rattle.std.proofs.Common.{◌≡◌, ◌<◌, ◌≤◌, ℕ, zero, suc, ◌+◌, Bool, true, false, List, [], ◌∷◌, ◌++◌, map, length, take, refl, sym, ◌∙◌, ap, inl, inr, arith, add-one}
 use Rattle.std.specs.Prelude.{slice_get, Some}
 use Rattle.file_info.specs.Lists.{In, IsDistinct}
 use Rattle.manifest_reader.specs.declared.command.Command.{Command}
@@ -36,6 +36,13 @@ started_in (d ∷ cs) (true ∷ ms) zero c e m = inl (let same : d ≡ c = cc e 
 started_in (d ∷ cs) (false ∷ ms) zero c e m = cc m
 started_in (d ∷ cs) (true ∷ ms) (suc k) c e m = inr (started_in cs ms k c e m)
 started_in (d ∷ cs) (false ∷ ms) (suc k) c e m = started_in cs ms k c e m
+
+-- no more than there are commands
+pub starts_few : (cs : List Command) (ms : List Bool) → length (starts_of cs ms) ≤ length cs
+starts_few [] ms = omega arith
+starts_few (c ∷ cs) [] = omega arith
+starts_few (c ∷ cs) (true ∷ ms) = let rest = starts_few cs ms in omega arith
+starts_few (c ∷ cs) (false ∷ ms) = let rest = starts_few cs ms in omega arith
 
 abbrev pub start_names : List Start → List (List ℕ)
 start_names starts = map (λ (s : Start). s.command) starts

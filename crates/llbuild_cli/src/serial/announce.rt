@@ -1,5 +1,5 @@
 //! The line of a start.
-ghost use Rattle.std.specs.Prelude.{◌≡◌, ◌≤◌, ◌+◌, ◌∷◌, [], ◌++◌, length, IfOk, IfErr, OnOk, OnErr};
+ghost use Rattle.std.specs.Prelude.{◌≡◌, ◌<◌, ◌≤◌, ◌+◌, ◌-◌, ◌^◌, ◌∷◌, [], ◌++◌, length, IfOk, IfErr, OnOk, OnErr};
 ghost use Rattle.outside.specs.View.{Grew};
 ghost use Rattle.llbuild_cli.specs.Start.{shown_of, start_of};
 ghost use Rattle.llbuild_cli.specs.Stop.{IsSinkStop};
@@ -46,6 +46,7 @@ pub fn announce<O: Sink>(
     out: &mut O,
     seen: &mut Seen,
 ) -> Result<u64, Stop>
+    requires room { length seen.old.starts < 2 ^ 64 - 1 }
     ensures ticket { IfOk result (λ ticket. ticket ≡ length seen.old.starts + 1) }
     ensures noted { OnOk result (seen.new ≡ record seen.old { starts = seen.old.starts ++ start_of command.now ∷ [] }) }
     ensures wrote { OnOk result (Grew (O.view out.old) (O.view out.new) (line_of (length seen.old.starts + 1) (start_of command.now))) }
@@ -55,9 +56,7 @@ pub fn announce<O: Sink>(
     ensures later { (O.view out.old).faults ≤ (O.view out.new).faults }
 {
     let start = start_of(alloc, command)?;
-    let Some(ticket) = (seen.starts() as u64).checked_add(1) else {
-        return Err(Stop::NoMemory);
-    };
+    let ticket = seen.starts() as u64 + 1;
     let line = line_of(alloc, ticket, &start)?;
     put_all(out, line.as_slice())?;
     seen.note_start(start)?;

@@ -1,5 +1,5 @@
 //! A serial build: the commands of the target's reach, one after the other, in the order of the manifest.
-ghost use Rattle.std.specs.Prelude.{◌≡◌, ◌⊎◌, ℕ, ◌≤◌, ◌+◌, [], ◌++◌, List as Items, length, IfErr, OnOk};
+ghost use Rattle.std.specs.Prelude.{◌≡◌, ◌⊎◌, ℕ, ◌<◌, ◌≤◌, ◌+◌, ◌-◌, ◌^◌, [], ◌++◌, List as Items, length, IfErr, OnOk};
 ghost use Rattle.file_info.specs.Content.{FileVersion};
 ghost use Rattle.file_info.specs.Lists.{In};
 ghost use Rattle.outside.specs.View.{Grew, Stayed, Tells};
@@ -47,6 +47,7 @@ fn run_one<L: Law, W: World<L>, O: Sink>(
     seen: &mut Seen,
 ) -> Result<(), Stop>
     requires none { (W.view world.old).orders ≡ [] }
+    requires room { length seen.old.starts < 2 ^ 64 - 1 }
     requires sound { IsSound command.now }
     requires unseen { (p : Items ℕ) → IsOutput command.now p → IsUnknown seen.old p }
     requires stands { SeenStands (W.view world.old) seen.old }

@@ -15,7 +15,7 @@ pub returns-in_err-put_all-clause-part : goal.returns-in_err-put_all-clause-part
 returns-in_err-put_all-clause-part g c =
     let start = c.in_ok-start.start in
     let count = length c.args.seen.now.starts + 1 in
-    let ticket : c.in-Some.ticket ≡ count = search rules in
+    let ticket : c.starts.result + 1 ≡ count = search rules in
     let whole : c.as_slice.result.now ≡ line_of count (start_of c.args.command.now) =
     c.as_slice.ensures.value ∙ c.in_ok-line.ensures ∙ ap (λ (n : ℕ). line_of n start) ticket ∙ ap (λ (s : Start). line_of count s) c.in_ok-start.ensures in
     on_err c.from_residual-in_err-put_all.result _
@@ -25,7 +25,7 @@ pub returns-in_err-note_start-clause-part : goal.returns-in_err-note_start-claus
 returns-in_err-note_start-clause-part g c =
     let start = c.in_ok-start.start in
     let count = length c.args.seen.now.starts + 1 in
-    let ticket : c.in-Some.ticket ≡ count = search rules in
+    let ticket : c.starts.result + 1 ≡ count = search rules in
     let whole : c.as_slice.result.now ≡ line_of count (start_of c.args.command.now) =
     c.as_slice.ensures.value ∙ c.in_ok-line.ensures ∙ ap (λ (n : ℕ). line_of n start) ticket ∙ ap (λ (s : Start). line_of count s) c.in_ok-start.ensures in
     on_err c.from_residual-in_err-note_start.result _
@@ -36,7 +36,7 @@ pub returns-clause-wrote : goal.returns-clause-wrote
 returns-clause-wrote g c =
     let start = c.in_ok-start.start in
     let count = length c.args.seen.now.starts + 1 in
-    let ticket : c.in-Some.ticket ≡ count = search rules in
+    let ticket : c.starts.result + 1 ≡ count = search rules in
     let whole : c.as_slice.result.now ≡ line_of count (start_of c.args.command.now) =
     c.as_slice.ensures.value ∙ c.in_ok-line.ensures ∙ ap (λ (n : ℕ). line_of n start) ticket ∙ ap (λ (s : Start). line_of count s) c.in_ok-start.ensures in
     subst (λ (t : List ℕ). Grew (g.O.Sink.view c.args.out.now) (g.O.Sink.view c.put_all.new.out) t) whole c.in_ok-put_all.ensures.ok

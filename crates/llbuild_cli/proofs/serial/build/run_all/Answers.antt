@@ -1,5 +1,6 @@
-use Rattle.std.proofs.Common.{rules, ◌≡◌, ◌⊎◌, ◌∙◌, ◌++◌, ◌∷◌, [], ℕ, List, true, false, drop, sym, ap, subst, arith, inl, inr}
+use Rattle.std.proofs.Common.{rules, ◌≡◌, ◌⊎◌, ◌∙◌, ◌++◌, ◌∷◌, [], ℕ, List, true, false, drop, take, length, sym, ap, subst, arith, inl, inr}
 use Rattle.std.specs.Prelude.{slice_get, Some}
+use Rattle.std.proofs.lemmas.List.{length-take}
 use Rattle.file_info.specs.Lists.{In}
 use Rattle.file_info.specs.declared.info.Info.{Info}
 use Rattle.build_meaning.specs.Fresh.{IsMade}
@@ -18,7 +19,7 @@ use Rattle.llbuild_cli.proofs.DidLemmas.{sources_more}
 use Rattle.llbuild_cli.proofs.ProgressLemmas.{if_err, moved_both, moved_wider}
 use Rattle.llbuild_cli.proofs.NeedLemmas.{made_once, inputs_settled, outputs_unseen}
 use Rattle.llbuild_cli.proofs.PlaceLemmas.{made_here, stands_ran, stands_skip}
-use Rattle.llbuild_cli.proofs.StartLemmas.{starts_more, starts_skip, are_starts, not_started}
+use Rattle.llbuild_cli.proofs.StartLemmas.{starts_few, starts_more, starts_skip, are_starts, not_started}
 use Rattle.llbuild_cli.proofs.StopLemmas.{build_stopped, came_starts, done_one, even_names, is_next, names_both, orders_one, orders_stopped, starts_grow, starts_stopped, step_stopped, wrote_more, wrote_stopped}
 use Rattle.build_meaning.proofs.PlaceLemmas.{In-get, get-read, take-drop-get}
 use Rattle.llbuild_cli.proofs.serial.build.run_all.Goals as goal
@@ -46,6 +47,11 @@ run_one-requires-clause-sound g c κs within =
       distinct = rule.outputs cmd named;
       apart = λ p i o. rule.inputs place cmd i.0 at_place i.1.0 (subst (λ (q : List ℕ). IsMade (drop place commands) q) i.1.1 (made_here commands place cmd p at_place o));
     }
+
+pub run_one-requires-clause-room : goal.run_one-requires-clause-room
+run_one-requires-clause-room g c κs within =
+    let before = take c.commands.place c.args.manifest.now.commands in
+    omega (arith, ap length c.commands.invariant.starts, starts_few before c.args.marks.now, length-take c.commands.place c.args.manifest.now.commands, c.requires.manifest.few_commands)
 
 pub run_one-requires-clause-unseen : goal.run_one-requires-clause-unseen
 run_one-requires-clause-unseen g c κs within p o =
