@@ -20,7 +20,7 @@ import tempfile
 import time
 
 TOP = pathlib.Path(__file__).resolve().parent.parent
-PROGRAM = TOP / "crates" / "llbuild_cli" / "out" / "llbuild_cli"
+PROGRAM = TOP / "crates" / "llbuild" / "out" / "llbuild"
 
 # A target of a manifest has at most so many nodes.
 NODES_MAX = 65536
