@@ -14,14 +14,14 @@ use Rattle.manifest_reader.specs.declared.command.InputForm.TheVariants.{File, V
 use Rattle.manifest_reader.specs.declared.command.Tool.{Tool}
 use Rattle.manifest_reader.specs.declared.command.Tool.TheVariants as tools
 
--- what is asked of a node that is read in this form
+-- what a command asks of a node that is read in this form
 abbrev pub key_in : NodeName → InputForm → InputKey
 key_in node File = NodeKey node
 key_in node Virtual = NodeKey node
 key_in node (Tree patterns) = TreeKey (node_text node) patterns
 key_in node (Structure patterns) = StructureKey (node_text node) patterns
 
--- what is asked of an input
+-- what a command asks of an input
 abbrev pub key_of : Input → InputKey
 key_of input = key_in input.node input.form
 
@@ -29,18 +29,18 @@ key_of input = key_in input.node input.form
 abbrev pub variable_of : EnvPair → EnvText
 variable_of pair = record { name = pair.name; text = pair.text }
 
--- the program of a shell command
+-- what a shell command hands its tool: its words or its line, and its variables
 abbrev pub program_of : Args → List EnvText → Bool → List (List ℕ) → ToolMeaning
 program_of Absent env inherit deps = ShellWords [] env inherit deps
 program_of (Words words) env inherit deps = ShellWords words env inherit deps
 program_of (Line line) env inherit deps = ShellLine line env inherit deps
 
--- a signature of its own stands for the program
+-- what a shell command hands its tool: a signature of its own, where it has one, stands in place of its program
 abbrev pub shell_of : Option (List ℕ) → Args → List EnvText → Bool → List (List ℕ) → ToolMeaning
 shell_of (Some signature) args env inherit deps = ShellSigned signature inherit deps
 shell_of None args env inherit deps = program_of args env inherit deps
 
--- what the tool is handed
+-- the tool, and what the command hands it
 abbrev pub tool_in : Tool → Command → ToolMeaning
 tool_in tools.Phony c = Phony
 tool_in tools.Shell c = shell_of c.signature c.args (map variable_of c.env) c.inherit_env c.deps
@@ -49,7 +49,7 @@ tool_in tools.Symlink c = MakesLink c.contents
 tool_in tools.Archive c = Archives
 tool_in tools.StaleFileRemoval c = RemovesStale c.expected c.roots
 
--- everything of a command but its name, its description and how its nodes are written
+-- what a command of a manifest means: everything but its name, its description and how its nodes are written
 abbrev pub meaning_of : Command → Meaning
 meaning_of c = record {
   inputs = map key_of c.inputs;

@@ -4,12 +4,12 @@ use Rattle.file_info.specs.Lists.{In}
 use Rattle.manifest_reader.specs.declared.command.Command.{Command}
 use Rattle.manifest_reader.specs.declared.command.Input.{Input}
 
--- a command is needed for these nodes: it makes one of them, or an input of a command that is needed
+-- the command is needed for these nodes: it makes one of them, or an input of a command that is needed
 pub data IsNeeded (commands : List Command) (wanted : List Input) : Command → Type 0 where
   wants : {c : Command} (i : Input) → In c commands → In i wanted → In i.node c.outputs → IsNeeded commands wanted c
   needs : {c : Command} (user : Command) (i : Input) → In c commands → IsNeeded commands wanted user → In i user.inputs → In i.node c.outputs → IsNeeded commands wanted c
 
--- one mark for each command, by its place: whether it is needed
+-- there is one mark for each command, by its place, and it is set exactly where the command is needed
 pub record AreMarks (commands : List Command) (wanted : List Input) (marks : List Bool) : Type 0 where
   pub count : length marks ≡ length commands
   pub each : (k : ℕ) (c : Command) → slice_get commands k ≡ Some c → (slice_get marks k ≡ Some true) ↔ IsNeeded commands wanted c

@@ -8,7 +8,8 @@ use Rattle.manifest_reader.specs.declared.command.Input.{Input}
 use Rattle.build_meaning.specs.Fresh.{IsMade}
 use Rattle.build_meaning.specs.Unique.{HasOneMaker}
 
--- names differ, each path has one maker at most and is one output of it, and no command reads what it or a later one makes
+-- names differ, each path has one maker at most and is one output of it, and no command reads what it or a later one makes.
+-- It holds of the commands of each manifest that meets `IsManifest`: the law `manifests_are_orderly`
 pub record AreOrderly (commands : List Command) : Type 0 where
   pub names : IsDistinct (map (λ (c : Command). c.name) commands)
   pub makers : HasOneMaker commands

@@ -14,10 +14,10 @@ shown_byte b = if is_control b then 92 ∷ 120 ∷ hex_digit (b / 16) ∷ hex_di
 abbrev pub show : List ℕ → List ℕ
 show text = flat_map shown_byte text
 
--- a text, and the place of a byte
+-- a text, ` at byte ` and the place in decimal
 unfoldable pub at_byte : List ℕ → ℕ → List ℕ
 at_byte text at = text ++ codes " at byte " ++ decimal at
 
--- a line's end
+-- a line's end: LF
 abbrev pub line_end : List ℕ
 line_end = 10 ∷ []

@@ -3,8 +3,8 @@ use Rattle.std.specs.Prelude.{ℕ}
 use Rattle.build_report.specs.declared.report.End.{End}
 use Rattle.build_report.specs.declared.report.End.TheVariants.{Ok, CommandFailed, MissingInput, Usage, NoFile, Manifest, UnknownTarget, DiskFault, HostFault, SinkFault, NoMemory}
 
--- 0 for success, 1 for a build that failed, 2 for words or a manifest that are refused, 3 for the outside, and 5 for want
--- of memory
+-- 0 for success; 1 for a command that failed and for a missing input; 2 for words, a file, a manifest or a target that are
+-- refused; 3 for a fault of the disk, of a host or of standard output; 5 for want of memory
 abbrev pub status_of : {F : Type 0} → End F → ℕ
 status_of Ok = 0
 status_of (CommandFailed command exit) = 1

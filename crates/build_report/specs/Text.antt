@@ -10,7 +10,7 @@ use Rattle.build_report.specs.declared.report.End.TheVariants as ends
 use Rattle.build_report.specs.Escape.{show, line_end}
 use Rattle.build_report.specs.ErrorText.{load_text}
 
--- the line of a start: its number in brackets, and what is shown of the command
+-- the line of a start: `[`, its number in decimal, `] `, what is shown of the command, and LF
 abbrev pub line_of : ℕ → Start → List ℕ
 line_of place start = codes "[" ++ decimal place ++ codes "] " ++ show start.shown ++ line_end
 
@@ -23,11 +23,11 @@ lines_from place (start ∷ more) = line_of place start ++ lines_from (place + 1
 abbrev pub lines_of : List Start → List ℕ
 lines_of starts = lines_from 1 starts
 
--- the line after a build that succeeded, with the number of its starts
+-- the line after a build that succeeded: `ok: `, the number of its starts in decimal, ` started` and LF
 abbrev pub summary_text : ℕ → List ℕ
 summary_text starts = codes "ok: " ++ decimal starts ++ codes " started" ++ line_end
 
--- how a program ended that failed
+-- how a program ended that failed: ` ended with status S`, or ` was killed`
 abbrev pub ending_text : Exit → List ℕ
 ending_text (Code status) = codes " ended with status " ++ decimal status
 ending_text Killed = codes " was killed"
@@ -37,7 +37,7 @@ abbrev pub usage_text : UsageFault → List ℕ
 usage_text usage.Words = codes "usage: the words are refused"
 usage_text usage.NoMemory = codes "out of memory"
 
--- nothing is said at success, and where standard output failed
+-- nothing is said of the end: it is success, or standard output failed
 abbrev pub is_silent : {F : Type 0} → End F → Bool
 is_silent ends.Ok = true
 is_silent (ends.CommandFailed command exit) = false
@@ -51,7 +51,7 @@ is_silent (ends.HostFault command fault) = false
 is_silent ends.SinkFault = true
 is_silent ends.NoMemory = false
 
--- what is said of an end
+-- what is said of an end, by cases
 abbrev pub end_text : {F : Type 0} → End F → List ℕ
 end_text ends.Ok = []
 end_text (ends.CommandFailed command exit) = codes "command " ++ show command ++ ending_text exit

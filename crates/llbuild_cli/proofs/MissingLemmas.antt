@@ -171,7 +171,7 @@ run_missing disk disk' sink sink' first last start end commands target c seen ol
 pub target_asks : {commands : List Command} {target : TargetEntry} {starts : List Start} → AllStarted commands target.nodes starts → IsAsker commands target starts target.name target.nodes
 target_asks all = inr (record { started = all; named = refl; inputs_are = refl })
 
--- a build that stops behind its commands stops as it must where a node is missing
+-- a build that stops after its commands stops as it must where a node is missing
 pub finish_missing : (first last start end : ℕ) (commands : List Command) (target : TargetEntry) (seen : List ℕ → Info → Type 0) (starts : List Start) (heard : List Heard) (stop : Stop)
     → AllStarted commands target.nodes starts → IsSingle seen → AskedBefore seen target.nodes ⊥ stop
     → IsBuildStop first last start end seen commands target starts heard stop

@@ -44,7 +44,7 @@ CameTo c old new before after DiskFault = NotAnnounced old new before after ⊎ 
 CameTo c old new before after SinkFault = PartAnnounced c old new before after
 CameTo c old new before after NoMemory = PartAnnounced c old new before after ⊎ Announced c old new before after
 
--- the order of the command ended
+-- one more order ended, and it is that of the command
 pub record HeardOne (c : Command) (before after : List Heard) : Type 0 where
   pub heard : Heard
   pub more : after ≡ before ++ heard ∷ []
@@ -52,12 +52,12 @@ pub record HeardOne (c : Command) (before after : List Heard) : Type 0 where
   pub is : IsOrderOf (meaning_of c) heard.order
   pub ticket : heard.order.ticket ≡ length before + 1
 
--- the order of the command ended, and it succeeded
+-- one more order ended, that of the command, and it succeeded
 pub record DoneOne (c : Command) (before after : List Heard) : Type 0 where
   pub one : HeardOne c before after
   pub done : IsDone one.heard.outcome
 
--- the order of the command ended, and it failed so
+-- one more order ended, that of the command, and it failed so
 pub record FailedOne (c : Command) (exit : Exit) (before after : List Heard) : Type 0 where
   pub one : HeardOne c before after
   pub failed : one.heard.outcome ≡ Failed exit

@@ -34,11 +34,11 @@ IsInput inputs p = (i : Input) × (In i inputs × (p ≡ node_text i.node))
 abbrev pub IsOutput : Command → List ℕ → Type 0
 IsOutput c p = In p (paths_of c.outputs)
 
--- what was seen still stands, where it is told
+-- what was seen still stands, where the world tells
 abbrev pub SeenStands : DiskView → Journal → Type 0
 SeenStands world seen = Told world → (p : List ℕ) (i : Info) → Knows seen p i → world.at p Follow ≡ i
 
--- a shell command with distinct outputs, none of which it reads
+-- a shell command over files with distinct outputs, none of which it reads
 pub record IsSound (c : Command) : Type 0 where
   pub served : IsServed c
   pub distinct : IsDistinct (paths_of c.outputs)
@@ -52,7 +52,7 @@ ReadsStand at reads = (r : Read) (p : List ℕ) (i : Info) → In r reads → r.
 abbrev pub contents_made : List FileVersion → (List ℕ → Form → Info) → Command → List Content
 contents_made m at c = map (λ (p : List ℕ). content m p (at p Follow)) (paths_of c.outputs)
 
--- the law gives the command, on what was read, what stands at its outputs
+-- the law gives the command, on what was read, the contents that stand at its outputs
 abbrev pub DidLaw : Does → List FileVersion → (List ℕ → Form → Info) → Command → List Read → Type 0
 DidLaw does m at c reads = does (signature_of (meaning_of c)) (read_contents m reads) [] (contents_made m at c)
 
@@ -72,7 +72,7 @@ pub record IsEnded (ended : DiskView → Order → Exit → Type 0) (old new : D
   pub stood : Told new → ReadsStand old.at e.order.reads → Unchanged moment.at e.order
 
 -- the command ran on what was read of its inputs: the journal went on by its inputs and then by the end of its order, whose
--- outcome has what stands at its outputs, and where it is told it did what the law says
+-- outcome has what stands at its outputs; and where the world tells, it did what the law says
 pub record DidCommand (does : Does) (c : Command) (after : DiskView) (old new : Journal) : Type 0 where
   pub middle : Journal
   pub looked : Looked after (IsInput c.inputs) old middle

@@ -10,6 +10,6 @@ abbrev pub end_in : Result (Unit {0}) (End NoFault) → End NoFault
 end_in (Ok done) = ends.Ok
 end_in (Err end) = end
 
--- the report of a run that could not be told
+-- the report of a run whose failure could not be told for want of memory
 abbrev pub without_memory : Report NoFault → Report NoFault
 without_memory report = record report { end = ends.NoMemory }

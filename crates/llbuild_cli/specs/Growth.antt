@@ -6,6 +6,6 @@ use Rattle.outside.specs.View.{SinkView, SinkFailed, Grew}
 abbrev pub GrewByPart : SinkView → SinkView → List ℕ → Type 0
 GrewByPart old new piece = (n : ℕ) × Grew old new (take n piece)
 
--- the whole piece was written, or a beginning of it where the sink failed
+-- told bytes grew by the whole piece, or by a beginning of it where the sink failed
 abbrev pub WroteUnlessFault : SinkView → SinkView → List ℕ → Type 0
 WroteUnlessFault old new piece = Grew old new piece ⊎ (GrewByPart old new piece × SinkFailed old new)

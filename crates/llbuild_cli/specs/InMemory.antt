@@ -24,12 +24,12 @@ seen_in s = record { bytes = Some s.items; faults = s.faults }
 abbrev pub files_of : List Write → Sights
 files_of writes = map (λ (w : Write). (w.path, info_of (last_of writes w.path) Follow)) writes
 
--- the content that manifest and these files give a path, by plain recursion
+-- the content that the manifest and these files give the path, by plain recursion
 abbrev pub FreshOf : List Write → Plan → List ℕ → Content → Type 0
 FreshOf files plan path x = Fresh ToyDoes (map_of files) plan.manifest.commands (files_of files) path x
 
--- the words have a plan by the manifest that stood in FILE, and each node of its target stands with exactly the content that the
--- manifest and the files that stood at entry give it
+-- the words have a plan by the manifest that stood in FILE, and each node of its target stands with exactly the content that
+-- the manifest and the files that stood at entry give it, and is there
 pub record FreshInMemory (old new : List Write) (words : List (List ℕ)) : Type 0 where
   pub job : Job
   pub asked : job_of words ≡ Some job

@@ -7,13 +7,13 @@ use Rattle.file_info.specs.declared.node.Read.{Read}
 use Rattle.file_info.specs.declared.node.Reading.TheVariants.{File}
 use Rattle.manifest_reader.specs.declared.command.Input.{Input}
 
--- this stands at the path of the input, as it was seen
+-- this file information was seen at the path of the input
 pub record SeenAs (seen : List ℕ → Info → Type 0) (input : Input) (info : Info) : Type 0 where
   pub path : List ℕ
   pub node : input.node ≡ Path path
   pub was : seen path info
 
--- the file of the input was seen, is there and was read
+-- the file of the input was seen and is there, and this is the reading of what was seen
 pub record IsRead (seen : List ℕ → Info → Type 0) (input : Input) (read : Read) : Type 0 where
   pub info : Info
   pub saw : SeenAs seen input info
@@ -28,7 +28,7 @@ AreRead seen [] (read ∷ reads) = ⊥
 AreRead seen (input ∷ inputs) [] = ⊥
 AreRead seen (input ∷ inputs) (read ∷ reads) = IsRead seen input read × AreRead seen inputs reads
 
--- the first of the inputs that is missing is written so: those before it were seen, and are there
+-- the first of the inputs that is missing is written so; those before it were seen, and are there
 pub record IsFirstMissing (seen : List ℕ → Info → Type 0) (inputs : List Input) (written : List ℕ) : Type 0 where
   pub before : List Input
   pub input : Input
@@ -45,7 +45,7 @@ pub record IsUnseen (seen : List ℕ → Info → Type 0) (input : Input) : Type
   pub node : input.node ≡ Path path
   pub unseen : (info : Info) → seen path info → ⊥
 
--- the inputs before this one were seen, and are there, and of this one nothing was seen
+-- the inputs before one of them were seen, and are there, and of that one nothing was seen
 pub record IsFirstUnseen (seen : List ℕ → Info → Type 0) (inputs : List Input) : Type 0 where
   pub before : List Input
   pub input : Input

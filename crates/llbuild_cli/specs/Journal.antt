@@ -7,7 +7,7 @@ use Rattle.build_report.specs.declared.report.Start.{Start}
 use Rattle.build_report.specs.declared.report.StatSeen.{StatSeen}
 use Rattle.llbuild_cli.specs.Sight.{Shows, IsSingle, sources_of}
 
--- the lists of a report, as far as they have come
+-- the lists of a report, as far as they have come: starts, sources and ended orders
 pub record Journal : Type 0 where
   pub starts : List Start
   pub stats : List StatSeen
@@ -17,7 +17,7 @@ pub record Journal : Type 0 where
 abbrev pub unused : Journal
 unused = record { starts = []; stats = []; heard = [] }
 
--- this information was noted of the path, as of a source or of an output
+-- this file information was noted of the path, as of a source or of an output
 abbrev pub Knows : Journal → List ℕ → Info → Type 0
 Knows j p i = Shows j.stats j.heard p i
 
@@ -25,7 +25,7 @@ Knows j p i = Shows j.stats j.heard p i
 abbrev pub IsUnknown : Journal → List ℕ → Type 0
 IsUnknown j p = (i : Info) → Knows j p i → ⊥
 
--- each source stands there once, and no path has two informations
+-- each source stands there once, and no path has file information of two values
 pub record IsOnce (j : Journal) : Type 0 where
   pub single : IsSingle (Knows j)
   pub sources : IsDistinct (sources_of j.stats)

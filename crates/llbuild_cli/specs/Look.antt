@@ -7,17 +7,17 @@ use Rattle.outside.specs.View.{Told, DiskView}
 use Rattle.llbuild_cli.specs.Journal.{Journal, IsUnknown}
 use Rattle.llbuild_cli.specs.Sight.{sights_of}
 
--- the path was asked for, was unknown, and stood so
+-- the path was asked for, was unknown, and came in as a source that stood so
 pub record IsNew (world : DiskView) (asked : List ℕ → Type 0) (old : Journal) (p : List ℕ) (i : Info) : Type 0 where
   pub was_asked : asked p
   pub unknown : IsUnknown old p
   pub stood : Told world → world.at p Follow ≡ i
 
--- each source that came in is one of these paths, and was unknown
+-- each source that came in is one of the paths that were asked for, and was unknown
 abbrev pub CameFrom : (List ℕ → Type 0) → Journal → Journal → Type 0
 CameFrom asked old new = (p : List ℕ) (i : Info) → In (p, i) (sights_of new.stats) → In (p, i) (sights_of old.stats) ⊎ (asked p × IsUnknown old p)
 
--- some of these paths were asked for: each source that came in is one of them. Nothing else was noted.
+-- some paths were asked for: each source that came in is one of them, and nothing else was noted
 pub record Looked (world : DiskView) (asked : List ℕ → Type 0) (old new : Journal) : Type 0 where
   pub starts : new.starts ≡ old.starts
   pub heard : new.heard ≡ old.heard

@@ -24,14 +24,14 @@ pub record IsNext (commands : List Command) (wanted : List Input) (starts : List
   pub started : (c : Command) → In c before → IsNeeded commands wanted c → In (start_of c) starts
   pub not_started : In (start_of command) starts → ⊥
 
--- what is next is the first command that is needed and was not started
+-- what is next is the first command that is needed and was not started; it has this name and asks for these inputs
 pub record AsksNext (commands : List Command) (target : TargetEntry) (starts : List Start) (asker : List ℕ) (inputs : List Input) : Type 0 where
   pub command : Command
   pub next : IsNext commands target.nodes starts command
   pub named : command.name ≡ asker
   pub inputs_are : command.inputs ≡ inputs
 
--- what is next is the target: all that is needed was started
+-- what is next is the target, since all that is needed was started; it has this name and asks for these inputs
 pub record AsksLast (commands : List Command) (target : TargetEntry) (starts : List Start) (asker : List ℕ) (inputs : List Input) : Type 0 where
   pub started : AllStarted commands target.nodes starts
   pub named : target.name ≡ asker
@@ -62,8 +62,8 @@ pub record IsOrderOn (seen : List ℕ → Info → Type 0) (c : Command) (heard 
   pub name : heard.order.command ≡ c.name
   pub read : AreRead seen c.inputs heard.order.reads
 
--- what was shown still is, and no path is shown with two informations. What is new among the starts and the orders that ended
--- is of the command, whose inputs are shown, and none is missing.
+-- what was shown still is, and no path is shown with file information of two values. What is new among the starts and the
+-- orders that ended is of the command, whose inputs are shown, and none is missing
 pub record ReadFirst (c : Command) (old new : List ℕ → Info → Type 0) (before after : List Start) (heard then : List Heard) : Type 0 where
   pub kept : (p : List ℕ) (i : Info) → old p i → new p i
   pub single : IsSingle new

@@ -39,13 +39,13 @@ pub record IsGiven (ended : DiskView → Order → Exit → Type 0) (new : DiskV
   pub keeps : Keeps moment new
   pub stood : Told new → Unchanged moment.at heard.order
 
--- the contents at paths with these informations
+-- the contents at paths with this file information, by the map
 abbrev pub contents_of : List FileVersion → List (List ℕ) → List Info → List Content
 contents_of m [] infos = []
 contents_of m (p ∷ paths) [] = []
 contents_of m (p ∷ paths) (i ∷ infos) = content m p i ∷ contents_of m paths infos
 
--- what succeeded did what the law says
+-- what succeeded did what the law says: from what the order read it made what stands at its outputs
 abbrev pub IsLawful : Does → List FileVersion → Order → Outcome → Type 0
 IsLawful does m order (Failed exit) = Unit {0}
 IsLawful does m order (Done found outputs) = does order.signature (read_contents m order.reads) [] (contents_of m order.outputs outputs)

@@ -12,7 +12,7 @@ pub data IsNextText (is_next : Start → Type 0) (is_last : Type 0) (starts : Li
   line : (next : Start) → is_next next → IsNextText is_next is_last starts (line_of (length starts + 1) next)
   summary : is_last → IsNextText is_next is_last starts (summary_text (length starts))
 
--- the lines of these starts, and a beginning of what is written next
+-- the lines of these starts were written, and a beginning of what may be written next
 pub record WrotePart (is_next : Start → Type 0) (is_last : Type 0) (old new : SinkView) (starts : List Start) : Type 0 where
   pub text : List ℕ
   pub next : IsNextText is_next is_last starts text

@@ -25,27 +25,30 @@ use Rattle.llbuild_cli.specs.Job.{job_of}
 abbrev pub manifest_max : ℕ
 manifest_max = 67108864
 
--- what is built: a target of a manifest
+-- what is built: a manifest and one of its targets
 pub record Plan : Type 0 where
   pub manifest : ManifestLists
   pub target : TargetEntry
 
+-- the plan of a manifest and the target of this name, or that there is no such target
 abbrev pub plan_named : ManifestLists → List ℕ → Option TargetEntry → Result Plan Refusal
 plan_named manifest name None = Err (refusals.UnknownTarget name)
 plan_named manifest name (Some target) = Ok (record { manifest = manifest; target = target })
 
+-- the plan of a manifest that was loaded and the target of this name, or why there is none
 abbrev pub plan_loaded : List ℕ → Result ManifestLists LoadError → Result Plan Refusal
 plan_loaded name (Err error) = Err (refusals.Manifest error)
 plan_loaded name (Ok manifest) = plan_named manifest name (target_named manifest.targets name)
 
--- the plan of a job, by what was read where its manifest is due, or why there is none
+-- the plan of a job, by what was read where its manifest is due, or why there is none: no file, a manifest that is refused,
+-- an unknown target
 abbrev pub plan_of : Job → FileBytes → Result Plan Refusal
 plan_of job Missing = Err (refusals.NoFile job.file)
 plan_of job NotFile = Err (refusals.NoFile job.file)
 plan_of job TooLong = Err (refusals.Manifest (load.Yaml yaml.TooLong))
 plan_of job (Bytes bytes) = plan_loaded job.target (loaded bytes)
 
--- what a disk answered of files
+-- what a disk answers of files: a relation of a path, the most bytes that are wanted, and the answer
 abbrev pub Gave : Type 1
 Gave = List ℕ → ℕ → FileBytes → Type 0
 
@@ -62,12 +65,12 @@ pub record FileAnswer (gave : Gave) (old new : DiskView) (words : List (List ℕ
   pub answer : FileBytes
   pub read : IsAnswer gave old new job.file answer
 
--- this is the plan of the words
+-- this is the plan of the words, by what was read of FILE
 pub record IsPlan (gave : Gave) (old new : DiskView) (words : List (List ℕ)) (plan : Plan) : Type 0 where
   pub asked : FileAnswer gave old new words
   pub is : plan_of asked.job asked.answer ≡ Ok plan
 
--- the words have no plan, and this is why
+-- the words have no plan, by what was read of FILE, and this is why
 pub record IsRefused (gave : Gave) (old new : DiskView) (words : List (List ℕ)) (refusal : Refusal) : Type 0 where
   pub asked : FileAnswer gave old new words
   pub is : plan_of asked.job asked.answer ≡ Err refusal

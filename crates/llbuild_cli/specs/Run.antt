@@ -37,7 +37,7 @@ use Rattle.llbuild_cli.specs.Start.{AreStarts, AllStarted, IsNextStart}
 use Rattle.llbuild_cli.specs.Stop.{end_after}
 use Rattle.build_report.specs.Text.{lines_of, summary_text}
 
--- what a world answers, and the law of its commands
+-- the law of commands, what a world answers of orders, and what its disk answers of files
 pub record Answers : Type 1 where
   pub does : Does
   pub ended : DiskView → Order → Exit → Type 0
@@ -51,9 +51,11 @@ pub record Run : Type 0 where
   pub out_new : SinkView
   pub report : Report NoFault
 
+-- the run of these worlds, these sinks and this report
 abbrev pub run_of : DiskView → DiskView → SinkView → SinkView → Report NoFault → Run
 run_of old new out out_new report = record { old = old; new = new; out = out; out_new = out_new; report = report }
 
+-- the law and the answers, as one value
 abbrev pub answers_of : Does → (DiskView → Order → Exit → Type 0) → Gave → Answers
 answers_of does ended gave = record { does = does; ended = ended; gave = gave }
 
@@ -61,7 +63,7 @@ answers_of does ended gave = record { does = does; ended = ended; gave = gave }
 abbrev pub report_of : End NoFault → Journal → Report NoFault
 report_of end j = record { end = end; starts = j.starts; stats = j.stats; heard = j.heard }
 
--- the report has this information of the path, as of a source or of an output
+-- the report has this file information of the path, as of a source or of an output
 abbrev pub Shown : Report NoFault → List ℕ → Info → Type 0
 Shown report p i = Shows report.stats report.heard p i
 
@@ -72,7 +74,7 @@ pub record AreFresh (does : Does) (m : List FileVersion) (run : Run) (plan : Pla
       (content m (node_text n.node) (run.new.at (node_text n.node) Follow))
   pub there : (n : Input) → In n plan.target.nodes → run.new.at (node_text n.node) Follow ≡ Missing → ⊥
 
--- the order is that of a command, whose start stands at the place that is its ticket, counted from 1
+-- the order is that of a command, whose start stands at the place that is the ticket, counted from 1
 pub record IsOrderOfStart (commands : List Command) (starts : List Start) (order : Order) : Type 0 where
   pub place : ℕ
   pub ticket : order.ticket ≡ place + 1
@@ -84,7 +86,7 @@ pub record IsOrderOfStart (commands : List Command) (starts : List Start) (order
   pub name : order.command ≡ command.name
   pub is : IsOrderOf (meaning_of command) order
 
--- the orders that ended are those of starts, none twice, and at most one start has none
+-- the orders that ended are those of starts, none is there twice, and at most one start has none
 pub record AreOrdersOf (commands : List Command) (report : Report NoFault) : Type 0 where
   pub each : (h : Heard) → In h report.heard → IsOrderOfStart commands report.starts h.order
   pub once : IsDistinct (map (λ (h : Heard). h.order.ticket) report.heard)
@@ -99,8 +101,8 @@ pub record IsHeard (answers : Answers) (new : DiskView) (heard : Heard) : Type 0
   pub given : IsGiven answers.ended new heard
   pub lawful : (m : List FileVersion) → Tells new m → IsLawful answers.does m heard.order heard.outcome
 
--- each start, and each order that ended, is that of a command whose inputs the report shows: none is missing, and that is what
--- the order read
+-- each start, and each order that ended, is that of a command whose inputs the report shows: none is missing, and what the
+-- order read is what the report shows
 pub record WereAsked (commands : List Command) (report : Report NoFault) : Type 0 where
   pub started : (s : Start) → In s report.starts → (c : Command) × (In c commands × IsStartOn (Shown report) c s)
   pub orders : (h : Heard) → In h report.heard → (c : Command) × (In c commands × IsOrderOn (Shown report) c h)
@@ -157,7 +159,7 @@ Wrote run plan (Err stops.DiskFault) = Grew run.out run.out_new (lines_of run.re
 Wrote run plan (Err stops.SinkFault) = WroteSome run plan
 Wrote run plan (Err stops.NoMemory) = WroteSome run plan
 
--- what holds of a run by this plan that had this result
+-- what holds of a run by this plan that had this result, a field for each fact
 pub record Did (answers : Answers) (run : Run) (plan : Plan) (result : Result (Unit {0}) Stop) : Type 0 where
   pub fresh : run.report.end ≡ ends.Ok → (m : List FileVersion) → Tells run.new m → AreFresh answers.does m run plan
   pub once : IsSingle (Shown run.report)

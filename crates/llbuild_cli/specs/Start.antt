@@ -12,7 +12,7 @@ abbrev pub shown_of : Option (List ℕ) → List ℕ → List ℕ
 shown_of None name = name
 shown_of (Some description) name = description
 
--- the start of a command of which no result is stored
+-- the start of a command: its name, its description or else its name, and the reason that no result of it is stored
 abbrev pub start_of : Command → Start
 start_of c = record { command = c.name; shown = shown_of c.description c.name; reason = NeverBuilt }
 

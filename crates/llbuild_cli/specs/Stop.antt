@@ -31,7 +31,7 @@ abbrev pub end_after : {F : Type 0} → Result (Unit {0}) Stop → End F
 end_after (Ok done) = ends.Ok
 end_after (Err stop) = end_of stop
 
--- the disk failed, or no memory was left
+-- the stop is a fault of the disk, whose count rose, or want of memory
 abbrev pub IsDiskStop : ℕ → ℕ → Stop → Type 0
 IsDiskStop before now (CommandFailed command exit) = ⊥
 IsDiskStop before now (MissingInput asker node) = ⊥
@@ -39,7 +39,7 @@ IsDiskStop before now DiskFault = Rose before now
 IsDiskStop before now SinkFault = ⊥
 IsDiskStop before now NoMemory = Unit {0}
 
--- the sink failed, or no memory was left
+-- the stop is a fault of the sink, whose count rose, or want of memory
 abbrev pub IsSinkStop : ℕ → ℕ → Stop → Type 0
 IsSinkStop before now (CommandFailed command exit) = ⊥
 IsSinkStop before now (MissingInput asker node) = ⊥
@@ -47,7 +47,7 @@ IsSinkStop before now DiskFault = ⊥
 IsSinkStop before now SinkFault = Rose before now
 IsSinkStop before now NoMemory = Unit {0}
 
--- the disk failed at the input, of which nothing was seen; no memory was left; or the input is missing
+-- why looking at an input stops: the disk failed at it, of which nothing was seen; no memory was left; or it is missing
 abbrev pub IsReadStop : ℕ → ℕ → List ℕ → (List ℕ → Info → Type 0) → Input → Stop → Type 0
 IsReadStop before now asker seen input (CommandFailed command exit) = ⊥
 IsReadStop before now asker seen input (MissingInput by node) = (by ≡ asker) × (node ≡ input.written) × SeenAs seen input Missing
@@ -55,8 +55,8 @@ IsReadStop before now asker seen input DiskFault = Rose before now × IsUnseen s
 IsReadStop before now asker seen input SinkFault = ⊥
 IsReadStop before now asker seen input NoMemory = Unit {0}
 
--- the disk failed at the first input of which nothing was seen; no memory was left; or one of the inputs is missing, and this is
--- the first
+-- why looking at the inputs stops: the disk failed at the first of which nothing was seen; no memory was left; or one of them
+-- is missing, and this is the first
 abbrev pub IsInputStop : ℕ → ℕ → List ℕ → (List ℕ → Info → Type 0) → List Input → Stop → Type 0
 IsInputStop before now asker seen inputs (CommandFailed command exit) = ⊥
 IsInputStop before now asker seen inputs (MissingInput by node) = (by ≡ asker) × IsFirstMissing seen inputs node
@@ -65,7 +65,7 @@ IsInputStop before now asker seen inputs SinkFault = ⊥
 IsInputStop before now asker seen inputs NoMemory = Unit {0}
 
 -- how far the inputs were looked at where a fault stopped what asks for them: a fault of the disk came at the first of which
--- nothing was seen, or when it was started; before a fault of the sink all were read
+-- nothing was seen, or when the command was started; before a fault of the sink all were read
 abbrev pub AskedBefore : (List ℕ → Info → Type 0) → List Input → Type 0 → Stop → Type 0
 AskedBefore seen inputs started (CommandFailed command exit) = Unit {0}
 AskedBefore seen inputs started (MissingInput asker node) = Unit {0}

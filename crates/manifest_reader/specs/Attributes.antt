@@ -35,7 +35,7 @@ args_text = 97 ∷ 114 ∷ 103 ∷ 115 ∷ []
 abbrev pub shell_text : List ℕ
 shell_text = 115 ∷ 104 ∷ 101 ∷ 108 ∷ 108 ∷ []
 
--- the attribute of this name
+-- the attribute of this name, where it is served
 abbrev pub attribute_named : List ℕ → Option Attribute
 attribute_named name =
     if bytes_eq name tool_text then Some attribute.Tool
@@ -43,21 +43,21 @@ attribute_named name =
     else (if bytes_eq name outputs_text then Some attribute.Outputs
     else (if bytes_eq name args_text then Some attribute.Args else None)))
 
--- the name of an attribute that is served
+-- whether an attribute of this name is served
 abbrev pub is_served : List ℕ → Bool
 is_served name = is_some (attribute_named name)
 
--- each name is that of an attribute that is served
+-- whether each name is that of an attribute that is served
 abbrev pub all_served : List Pair → Bool
 all_served [] = true
 all_served (p ∷ ps) = is_served (out-Pair p).name && all_served ps
 
--- no name stands twice
+-- whether no name stands twice
 abbrev pub names_differ : List Pair → Bool
 names_differ [] = true
 names_differ (p ∷ ps) = not (is_some (value_of (out-Pair p).name ps)) && names_differ ps
 
--- the pairs are those of attributes, each given once at most
+-- whether the pairs are those of attributes that are served, each given once at most
 abbrev pub are_attributes : List Pair → Bool
 are_attributes ps = all_served ps && names_differ ps
 
@@ -65,11 +65,11 @@ are_attributes ps = all_served ps && names_differ ps
 abbrev pub values_of : List Pair → Attributes
 values_of ps = record { tool = value_of tool_text ps; inputs = value_of inputs_text ps; outputs = value_of outputs_text ps; args = value_of args_text ps }
 
--- the values of attributes
+-- the values of attributes, where the pairs are such
 unfoldable pub attributes_of : List Pair → Option Attributes
 attributes_of ps = when (are_attributes ps) (Some (values_of ps))
 
--- the tool of a scalar
+-- the tool of a scalar, which is `shell`
 unfoldable pub tool_in : Yaml → Option Tool
 tool_in tree = do
   text ← text_of tree
@@ -80,7 +80,7 @@ unfoldable pub inputs_or_none : Option Yaml → Option (List Input)
 inputs_or_none None = Some []
 inputs_or_none (Some tree) = inputs_in tree
 
--- a command of the tool `shell`: what is not served yet has its default
+-- a command of the tool `shell`, in which all that is not served yet has its default
 abbrev pub shell_command : List ℕ → Tool → List Input → List NodeName → List (List ℕ) → Command
 shell_command name tool inputs outputs words = record {
   name = name;

@@ -19,17 +19,18 @@ pub record IsFileNode (node : NodeName) : Type 0 where
   pub is : node ≡ Path path
   pub short : length path ≤ 4096
 
--- the input is a file, read as one
+-- the input is such a file, read as one
 pub record IsFileInput (input : Input) : Type 0 where
   pub node : IsFileNode input.node
   pub form : input.form ≡ File
 
--- at most 65,536 files
+-- at most 65,536 such inputs
 pub record AreFileInputs (inputs : List Input) : Type 0 where
   pub few : length inputs ≤ 65536
   pub files : (i : Input) → In i inputs → IsFileInput i
 
--- a shell command that starts words over files; what is not served yet has its default
+-- a shell command of words over files: its inputs are at most 65,536 files, its outputs from 1 to 65,536 files, it has at
+-- least one word and no byte 0 in any, and all that is not served yet has its default
 pub record IsServed (c : Command) : Type 0 where
   pub words : List (List ℕ)
   pub is : c ≡ shell_command c.name Shell c.inputs c.outputs words
@@ -40,7 +41,8 @@ pub record IsServed (c : Command) : Type 0 where
   pub some_words : 1 ≤ length words
   pub no_nul : (w : List ℕ) → In w words → has_nul w ≡ false
 
--- all commands are served, all targets are made of files, and the rules over the lists are kept
+-- at most 262,144 commands, each of them served; at most 65,536 targets, each of at most 65,536 files; and the rules over the
+-- lists are kept. It holds of every manifest that is loaded: the law `loaded_manifests_are_served`
 pub record IsManifest (m : ManifestLists) : Type 0 where
   pub few_commands : length m.commands ≤ 262144
   pub commands : (c : Command) → In c m.commands → IsServed c

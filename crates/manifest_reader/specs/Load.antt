@@ -25,11 +25,12 @@ manifest_of tree = do
   commands ← commands_in sections.commands
   lists_of targets commands
 
--- the manifest of what was read
+-- the manifest of a tree, or `NotYet` where the tree breaks a rule
 abbrev pub of_tree : Option ManifestLists → Result ManifestLists LoadError
 of_tree None = Err load.NotYet
 of_tree (Some lists) = Ok lists
 
+-- the manifest of what was read: the reader's refusal first, and then the rules
 abbrev pub of_reading : Result Yaml YamlError → Result ManifestLists LoadError
 of_reading (Err refusal) = Err (load.Yaml refusal)
 of_reading (Ok tree) = of_tree (manifest_of tree)

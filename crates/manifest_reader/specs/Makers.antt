@@ -5,12 +5,12 @@ use Rattle.file_info.specs.declared.node.NodeName.{NodeName}
 use Rattle.file_info.specs.declared.node.NodeName.TheVariants.{Path, Virtual}
 use Rattle.manifest_reader.specs.declared.makers.Makers.{Makers}
 
--- the place that was noted for the node
+-- the place that was noted for the maker of the node
 abbrev pub noted_maker : Makers → NodeName → Option ℕ
 noted_maker makers (Path p) = get_by_text makers.paths p
 noted_maker makers (Virtual n) = get_by_text makers.virtuals n
 
--- the place is there, and is this one or a later one
+-- whether the place is there, and is this one or a later one
 abbrev pub is_from : ℕ → Option ℕ → Bool
 is_from place None = false
 is_from place (Some maker) = not (nat_lt maker place)

@@ -10,7 +10,8 @@ use Rattle.manifest_reader.specs.declared.makers.Makers.{Makers}
 use Rattle.manifest_reader.specs.Makers.{noted_maker}
 use Rattle.manifest_reader.specs.Places.{command_place, target_place, maker_of}
 
--- targets and commands in the order of the file, and the place of the target that is built where none is named
+-- what contracts see of a manifest: targets and commands in the order of the file, and the place of the target that is built
+-- where none is named
 pub record ManifestLists : Type 0 where
   pub targets : List TargetEntry
   pub default_place : Option ℕ
@@ -20,7 +21,7 @@ pub record ManifestLists : Type 0 where
 abbrev pub default_of : List TargetEntry → Option ℕ → Option TargetEntry
 default_of targets place = option_and_then (slice_get targets) place
 
--- each table answers what a walk over the lists would
+-- each table of a manifest answers what a walk over its lists would
 pub record IsIndexed {A B S R : Type 0} (targets : List TargetEntry) (target_places : IndexMap (String A) ℕ S) (commands : List Command) (command_places : IndexMap (String B) ℕ R) (makers : Makers) : Type 0 where
   pub targets_placed : (name : List ℕ) → get_by_text target_places name ≡ target_place targets name
   pub commands_placed : (name : List ℕ) → get_by_text command_places name ≡ command_place commands name

@@ -13,24 +13,24 @@ use Rattle.manifest_reader.specs.declared.command.Input.{Input}
 use Rattle.manifest_reader.specs.declared.command.InputForm.TheVariants.{File}
 use Rattle.manifest_reader.specs.Tree.{◌>>=◌, when, each, at_most, at_least_one, text_of, items_of}
 
--- the name of this text
+-- the name that a text is, where it is UTF-8 and has no fault as a name
 unfoldable pub name_of : List ℕ → Option (List ℕ)
 name_of text = when (is_utf8 text && is_none (name_fault text)) (Some text)
 
--- the byte is the text's last
+-- whether the byte is the text's last
 abbrev pub ends_with : ℕ → List ℕ → Bool
 ends_with byte text = elim (slice_get text (length text - 1)) [ None ↦ false | Some last ↦ last == byte ]
 
--- `<...>`, which names a virtual node
+-- whether the text is `<...>`, which names a virtual node
 abbrev pub is_virtual_text : List ℕ → Bool
 is_virtual_text [] = false
 is_virtual_text (b ∷ text) = b == 60 && ends_with 62 text
 
--- neither `<...>` nor the text of a directory, which ends with `/`
+-- whether the text is neither `<...>` nor that of a directory, which ends with `/`
 abbrev pub is_file_text : List ℕ → Bool
 is_file_text text = not (is_virtual_text text) && not (ends_with 47 text)
 
--- the file that a text names
+-- the file that a text names, in normal form, where it has no fault as a path
 unfoldable pub file_node : List ℕ → Option NodeName
 file_node text = when (is_file_text text && is_none (path_fault text)) (Some (Path (normal_form text)))
 
@@ -42,7 +42,7 @@ input_in tree = do
   node ← file_node written
   Some (record { written = written; node = node; form = File })
 
--- the items of a list of nodes
+-- the items of a list of nodes, of which there are at most 65,536
 unfoldable pub few_items_of : Yaml → Option (List Yaml)
 few_items_of tree = items_of tree >>= at_most 65536
 
@@ -63,7 +63,7 @@ outputs_in tree = do
   some ← at_least_one items
   each output_in some
 
--- a byte of the text is 0
+-- whether a byte of the text is 0
 abbrev pub has_nul : List ℕ → Bool
 has_nul text = list_any (λ b. b == 0) text
 

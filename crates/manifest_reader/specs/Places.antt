@@ -27,7 +27,7 @@ is_node (Path p) (Virtual o) = false
 is_node (Virtual n) (Path q) = false
 is_node (Virtual n) (Virtual o) = bytes_eq n o
 
--- whether the command makes the node
+-- whether the node is among the outputs of the command
 abbrev pub makes : NodeName → Command → Bool
 makes node command = list_any (is_node node) command.outputs
 

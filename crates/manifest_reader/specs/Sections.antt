@@ -35,7 +35,7 @@ abbrev pub section_of : List ℕ → Option Pair → Option Yaml
 section_of name None = None
 section_of name (Some p) = when (bytes_eq (out-Pair p).name name) (Some (out-Pair p).value)
 
--- client, targets and commands, in this order and nothing else
+-- the sections `client`, `targets` and `commands`, in this order and with nothing else
 abbrev pub three_sections : List Pair → Option Sections
 three_sections [] = None
 three_sections (a ∷ []) = None
@@ -57,7 +57,7 @@ only_value name [] = None
 only_value name (a ∷ []) = section_of name (Some a)
 only_value name (a ∷ b ∷ more) = None
 
--- the client is `basic`, and nothing else is said of it
+-- whether the client is `basic`, and nothing else is said of it
 unfoldable pub is_basic : Yaml → Bool
 is_basic tree = is_some (do
   pairs ← pairs_of tree
@@ -72,14 +72,14 @@ target_in p = do
   nodes ← inputs_in (out-Pair p).value
   Some (record { name = name; nodes = nodes })
 
--- the targets of their section
+-- the targets of their section, at most 65,536
 unfoldable pub targets_in : Yaml → Option (List TargetEntry)
 targets_in tree = do
   pairs ← pairs_of tree
   few ← at_most 65536 pairs
   each target_in few
 
--- the commands of their section
+-- the commands of their section, at most 262,144
 unfoldable pub commands_in : Yaml → Option (List Command)
 commands_in tree = do
   pairs ← pairs_of tree

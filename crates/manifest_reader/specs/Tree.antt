@@ -4,17 +4,18 @@ use Rattle.yaml_profile.specs.declared.yaml.Yaml.{Yaml, out-Yaml}
 use Rattle.yaml_profile.specs.declared.yaml.Yaml.TheOpen.{Yaml-F}
 use Rattle.yaml_profile.specs.declared.yaml.Pair.{Pair, out-Pair}
 
+-- what is read on with what is there, and nothing where nothing is
 infixl 10 ◌>>=◌
 abbrev pub ◌>>=◌ : {A B : Type 0} → Option A → (A → Option B) → Option B
 None >>= f = None
 (Some x) >>= f = f x
 
--- what is there, where the test holds
+-- what is there where the test holds, and nothing otherwise
 abbrev pub when : {A : Type 0} → Bool → Option A → Option A
 when true found = found
 when false found = None
 
--- each item as f reads it
+-- each item as `f` reads it, and nothing where one of them is refused
 abbrev pub each : {A B : Type 0} → (A → Option B) → List A → Option (List B)
 each f [] = Some []
 each f (x ∷ xs) = do
@@ -22,11 +23,11 @@ each f (x ∷ xs) = do
   ys ← each f xs
   Some (y ∷ ys)
 
--- the list, where it has no more items than this
+-- the list where it has no more items than the limit
 abbrev pub at_most : {A : Type 0} → ℕ → List A → Option (List A)
 at_most limit xs = when (not (nat_lt limit (length xs))) (Some xs)
 
--- the list, where it has an item
+-- the list where it has at least one item
 abbrev pub at_least_one : {A : Type 0} → List A → Option (List A)
 at_least_one [] = None
 at_least_one (x ∷ xs) = Some (x ∷ xs)

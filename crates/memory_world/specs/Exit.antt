@@ -15,11 +15,11 @@ use Rattle.outside.specs.Outcome.{form_of}
 use Rattle.memory_world.specs.Toy.{has_fail}
 use Rattle.memory_world.specs.Performance.{exit_by, is_read}
 
--- the exit of the order, where this stands and the map gives the contents
+-- the exit of the order, where the paths have this file information and the map gives the contents
 abbrev pub exit_on : List FileVersion → (List ℕ → Form → Info) → Order → Exit
 exit_on m at order = exit_by at (λ p f. content m p (at p f)) order
 
--- the exit is the one that the toy command gives on what stood
+-- the exit is the one that the toy command gives on what stood, for each map that the view tells
 abbrev pub IsToyExit : DiskView → Order → Exit → Type 0
 IsToyExit v order exit = (m : List FileVersion) → Tells v m → exit ≡ exit_on m v.at order
 
@@ -28,7 +28,7 @@ abbrev pub HasBlocked : (List ℕ → Form → Info) → Order → Type 0
 HasBlocked at order = (p : List ℕ) × In p order.outputs
     × ((at p Link ≡ infos.Directory) ⊎ ((r : Read) × In r order.reads × (is_read (node_text r.node) r.reading p ≡ true)))
 
--- what stands at a path that had this information, asked for as the order asks
+-- the content of a path that had this file information, asked for as the order asks
 abbrev pub content_for : List FileVersion → (List ℕ → Form → Info) → Order → List ℕ → Info → Content
 content_for m at order path info = content m path (at path (form_of order.links path info))
 

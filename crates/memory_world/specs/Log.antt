@@ -11,7 +11,7 @@ use Rattle.memory_world.specs.declared.write.What.{What}
 use Rattle.memory_world.specs.declared.write.What.TheVariants.{Gone, Dir, Bytes, LinkText}
 use Rattle.memory_world.specs.declared.write.Write.{Write}
 
--- one write more, with the next number
+-- the log with one write more, which has the next number
 abbrev pub put : List Write → List ℕ → What → List Write
 put ws p x = ws ++ record { path = p; number = length ws + 1; what = x } ∷ []
 
@@ -25,6 +25,7 @@ unfoldable pub last_of : List Write → List ℕ → Option Write
 last_of [] p = None
 last_of (w ∷ ws) p = later (last_of ws p) (cond (same_list w.path p) (Some w) None)
 
+-- the file information that a write gives, by its number and what it left
 abbrev pub what_info : ℕ → What → Form → Info
 what_info n Gone f = Missing
 what_info n Dir f = Directory
@@ -32,15 +33,16 @@ what_info n (Bytes b) f = File (length b) (n ∷ 0 ∷ 0 ∷ 0 ∷ [])
 what_info n (LinkText t) Follow = Missing
 what_info n (LinkText t) AsLink = Link t
 
--- what stands where this was the last write, as a disk tells it
+-- the file information of a path where this was the last write
 abbrev pub info_of : Option Write → Form → Info
 info_of None f = Missing
 info_of (Some w) f = what_info w.number w.what f
 
--- the information of a path, as a disk tells it
+-- the file information of a path, as a disk tells it. A link that is followed leads nowhere
 abbrev pub info_at : List Write → List ℕ → Form → Info
 info_at ws p f = info_of (last_of ws p) f
 
+-- the content that a write leaves
 abbrev pub what_content : What → Form → Content
 what_content Gone f = Absent
 what_content Dir f = Folder
@@ -48,12 +50,12 @@ what_content (Bytes b) f = Text b
 what_content (LinkText t) Follow = Absent
 what_content (LinkText t) AsLink = LinkTo t
 
--- what stands where this was the last write
+-- the content of a path where this was the last write
 abbrev pub content_of : Option Write → Form → Content
 content_of None f = Absent
 content_of (Some w) f = what_content w.what f
 
--- what stands at a path. A link leads nowhere.
+-- the content of a path. A link that is followed leads nowhere
 abbrev pub standing : List Write → List ℕ → Form → Content
 standing ws p f = content_of (last_of ws p) f
 
@@ -64,23 +66,23 @@ AgreesAt m p n Dir = Unit {0}
 AgreesAt m p n (Bytes b) = text_at m p (File (length b) (n ∷ 0 ∷ 0 ∷ 0 ∷ [])) ≡ b
 AgreesAt m p n (LinkText t) = Unit {0}
 
--- one entry more where bytes were written
+-- the entries with one more, where the write has bytes
 abbrev pub with_known : List ℕ → ℕ → What → List FileVersion → List FileVersion
 with_known p n Gone known = known
 with_known p n Dir known = known
 with_known p n (Bytes b) known = record { path = p; info = File (length b) (n ∷ 0 ∷ 0 ∷ 0 ∷ []); text = b } ∷ known
 with_known p n (LinkText t) known = known
 
--- all bytes that were written, each at its own information
+-- the bytes of every write of a file, each at the file information that the write gives
 abbrev pub known_of : List Write → List FileVersion
 known_of [] = []
 known_of (w ∷ ws) = with_known w.path w.number w.what (known_of ws)
 
--- the map agrees with each write
+-- the map gives the bytes of every write
 abbrev pub Tells : List Write → List FileVersion → Type 0
 Tells ws m = (k : FileVersion) → In k (known_of ws) → text_at m k.path k.info ≡ k.text
 
--- the writes have the numbers from this one on, in their order
+-- whether the writes have the numbers from this one on, in their order
 abbrev pub numbered_from : ℕ → List Write → Bool
 numbered_from n [] = true
 numbered_from n (w ∷ ws) = eqb w.number n && numbered_from (suc n) ws
@@ -100,7 +102,7 @@ pub record IsIndexed (ws : List Write) (place_at : List ℕ → Option ℕ) : Ty
   pub numbered : IsTrue (numbered_from 1 ws)
   pub placed : (p : List ℕ) → IsPlaceOf ws p (place_at p)
 
--- the information is none of a link
+-- the file information is not that of a link
 abbrev pub IsNoLink : Info → Type 0
 IsNoLink Missing = Unit {0}
 IsNoLink Directory = Unit {0}

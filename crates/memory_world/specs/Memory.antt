@@ -12,8 +12,8 @@ use Rattle.memory_world.specs.declared.write.Write.{Write}
 use Rattle.outside.specs.View.{DiskView, Keeps, next_count}
 use Rattle.memory_world.specs.Log.{known_of, last_of, info_of}
 
--- all writes, the begun orders, how many orders were begun, the numbers of the calls that fail, how many calls there
--- were, and how many of them failed
+-- what is seen of a `MemoryWorld`: all writes, the begun orders, how many orders were begun, the numbers of the calls that
+-- fail, how many calls there were, and how many of them failed
 pub record Memory : Type 0 where
   pub writes : List Write
   pub begun : List Order
@@ -22,7 +22,7 @@ pub record Memory : Type 0 where
   pub calls : ℕ
   pub faults : ℕ
 
--- the call of this number fails
+-- whether the call of this number fails
 abbrev pub is_failing : List ℕ → ℕ → Bool
 is_failing failing number = list_any (λ n. n == number) failing
 
@@ -30,27 +30,27 @@ is_failing failing number = list_any (λ n. n == number) failing
 abbrev pub faults_after : List ℕ → ℕ → ℕ → ℕ
 faults_after failing number faults = if is_failing failing number then next_count faults else faults
 
--- one call more: it has the next number, and the failures are counted
+-- the world after one call more, which has the next number, and is counted as a fault where it fails
 abbrev pub after_call : Memory → Memory
 after_call m = record m { calls = next_count m.calls; faults = faults_after m.failing (next_count m.calls) m.faults }
 
--- the next call fails
+-- whether the next call fails
 abbrev pub fails_next : Memory → Bool
 fails_next m = is_failing m.failing (next_count m.calls)
 
--- one order more is begun
+-- the world with one order more begun
 abbrev pub with_order : Memory → Order → Memory
 with_order m order = record m { begun = m.begun ++ order ∷ []; begins = next_count m.begins }
 
--- these writes were made, and these orders are left
+-- the world with these writes made and these orders left
 abbrev pub with_left : Memory → List Write → List Order → Memory
 with_left m writes orders = record m { writes = writes; begun = orders }
 
--- what stands at each path, as a disk tells it
+-- the file information of a path, as a disk tells it
 abbrev pub stands : Memory → List ℕ → Form → Info
 stands m path form = info_of (last_of m.writes path) form
 
--- what is seen of such writes, faults, orders and begins: all is told
+-- the view of a disk with these writes, faults, orders and begins: all is told
 abbrev pub seen_of : List Write → ℕ → List Order → ℕ → DiskView
 seen_of writes faults orders begins = record {
   at = λ p f. info_of (last_of writes p) f;
@@ -61,21 +61,23 @@ seen_of writes faults orders begins = record {
   begins = begins;
 }
 
--- what is seen of a world in memory
+-- what is seen of a world in memory as a disk: all is told
 abbrev pub view_of : Memory → DiskView
 view_of m = seen_of m.writes m.faults m.begun m.begins
 
--- what tells in the new world told in the old one
+-- what is told of the new world was told of the old one
 abbrev pub Kept : Memory → Memory → Type 0
 Kept old new = Keeps (view_of old) (view_of new)
 
+-- the bytes of a write, which are none where it left no file
 abbrev pub text_of : What → List ℕ
 text_of Gone = []
 text_of Dir = []
 text_of (Bytes text) = text
 text_of (LinkText text) = []
 
--- every write gives its bytes at its own information
+-- the map that is made of the writes: each gives its bytes at its own file information. Where the writes are numbered it
+-- tells them all: the law `numbered_writes_tell`
 abbrev pub map_of : List Write → List FileVersion
 map_of [] = []
 map_of (w ∷ ws) = record { path = w.path; info = File (length (text_of w.what)) (w.number ∷ 0 ∷ 0 ∷ 0 ∷ []); text = text_of w.what } ∷ map_of ws

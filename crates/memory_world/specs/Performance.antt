@@ -24,17 +24,18 @@ use Rattle.outside.specs.Outcome.{form_of}
 use Rattle.memory_world.specs.Log.{put, last_of, info_of, info_at, standing}
 use Rattle.memory_world.specs.Toy.{message_of, digest_of, reading_fails}
 
--- what stands at an entry of a tree, asked for as the order asks. Contents are given by path and form.
+-- what stands at an entry of a tree, asked for as the order asks. Contents are given by path and form
 abbrev pub entry_at : (List ℕ → Form → Content) → List (List ℕ) → TreeEntry → List ℕ × Content
 entry_at held links e = (e.path, held e.path (form_of links e.path e.info))
 
--- what stands where this was read of the path
+-- the contents where this was read of the path
 abbrev pub reading_at : (List ℕ → Form → Content) → List (List ℕ) → List ℕ → Reading → ReadContent
 reading_at held links path readings.Nothing = Void
 reading_at held links path (readings.File info) = One (held path (form_of links path info))
 reading_at held links path (readings.Tree entries) = Entries (map (entry_at held links) entries)
 reading_at held links path (readings.Structure entries) = Shape entries
 
+-- the node of a reading, with the contents that stand there
 abbrev pub read_at : (List ℕ → Form → Content) → List (List ℕ) → Read → NodeName × ReadContent
 read_at held links r = (r.node, reading_at held links (node_text r.node) r.reading)
 
@@ -42,28 +43,29 @@ read_at held links r = (r.node, reading_at held links (node_text r.node) r.readi
 abbrev pub reads_at : List Write → Order → List (NodeName × ReadContent)
 reads_at ws order = map (read_at (standing ws) order.links) order.reads
 
--- the path was read where this was read of that path
+-- whether the other path was read, where this was read of the path
 abbrev pub is_read : List ℕ → Reading → List ℕ → Bool
 is_read path readings.Nothing other = false
 is_read path (readings.File info) other = same_list path other
 is_read path (readings.Tree entries) other = same_list path other || list_any (λ (e : TreeEntry). same_list e.path other) entries
 is_read path (readings.Structure entries) other = same_list path other || list_any (λ (e : ShapeEntry). same_list e.path other) entries
 
+-- whether the file information is that of a directory
 abbrev pub is_directory : Info → Bool
 is_directory infos.Missing = false
 is_directory infos.Directory = true
 is_directory (infos.File size stamp) = false
 is_directory (infos.Link text) = false
 
--- the path cannot be an output: it is a directory, or was read
+-- whether the path cannot be an output: it is a directory, or was read
 abbrev pub is_blocked : (List ℕ → Form → Info) → List Read → List ℕ → Bool
 is_blocked at reads path = is_directory (at path Link) || list_any (λ (r : Read). is_read (node_text r.node) r.reading path) reads
 
--- a file that was read has a line `fail`
+-- whether a file that was read has a line `fail`
 abbrev pub has_failing : (List ℕ → Form → Content) → Order → Bool
 has_failing held order = list_any (λ (r : Read). reading_fails (reading_at held order.links (node_text r.node) r.reading)) order.reads
 
--- the order is one for a program without dependency files
+-- whether the order is one for a program without dependency files
 abbrev pub is_served : Order → Bool
 is_served order = act_served order.act order.deps
   where
@@ -73,15 +75,15 @@ is_served order = act_served order.act order.deps
     act_served MakeDir deps = false
     act_served (MakeLink text) deps = false
 
--- the order succeeds where these are the informations and the contents
+-- whether the order succeeds where this is the file information and these are the contents
 abbrev pub succeeds_by : (List ℕ → Form → Info) → (List ℕ → Form → Content) → Order → Bool
 succeeds_by at held order = is_served order && not (list_any (is_blocked at order.reads) order.outputs) && not (has_failing held order)
 
--- the exit of the order where these are the informations and the contents
+-- the exit of the order where this is the file information and these are the contents
 abbrev pub exit_by : (List ℕ → Form → Info) → (List ℕ → Form → Content) → Order → Exit
 exit_by at held order = if succeeds_by at held order then Code 0 else Code 1
 
--- the order succeeds on these files
+-- whether the order succeeds on these files
 abbrev pub succeeds : List Write → Order → Bool
 succeeds ws order = succeeds_by (info_at ws) (standing ws) order
 
@@ -90,7 +92,7 @@ abbrev pub put_digests : List Write → List ℕ → ℕ → List (List ℕ) →
 put_digests ws message place [] = ws
 put_digests ws message place (path ∷ paths) = put_digests (put ws path (Bytes (digest_of message place))) message (suc place) paths
 
--- the files after the order
+-- the files after the order: each output holds its digest where the order succeeds, and otherwise nothing changed
 abbrev pub performed : List Write → Order → List Write
 performed ws order = if succeeds ws order then put_digests ws (message_of order.signature (reads_at ws order) []) 0 order.outputs else ws
 

@@ -41,13 +41,15 @@ TakenOut order old new = (before : List Order) × (after : List Order) × (old �
 abbrev pub stands_in : List (List ℕ) → List ℕ → Bool
 stands_in paths path = list_any (λ p. same_list p path) paths
 
+-- the file information is that of a link
 abbrev pub is_link : Info → Bool
 is_link infos.Missing = false
 is_link infos.Directory = false
 is_link (infos.File size stamp) = false
 is_link (infos.Link text) = true
 
--- how a path is asked for that had this information: it is not followed where it stands among the links or was one
+-- how a path is asked for that had this file information: it is not followed where it stands among the links, or was a link
+-- itself
 abbrev pub form_of : List (List ℕ) → List ℕ → Info → Form
 form_of links path info = if is_link info || stands_in links path then Link else Follow
 
@@ -80,7 +82,7 @@ abbrev pub contents_at : List FileVersion → (List ℕ → Form → Info) → O
 contents_at m at order = map (λ p. content m p (at p (output_form order p))) order.outputs
 
 -- these are the paths that the dependency files name, as they stand. None are read yet, so a command that writes one is
--- promised nothing.
+-- promised nothing
 abbrev pub IsFound : List FileVersion → (List ℕ → Form → Info) → List (List ℕ) → List (List ℕ) → Type 0
 IsFound m at [] found = found ≡ []
 IsFound m at (dep ∷ deps) found = ⊥

@@ -9,7 +9,8 @@ use Rattle.outside.specs.declared.order.Order.{Order}
 use Rattle.outside.specs.declared.disk.DiskError.{DiskError}
 use Rattle.outside.specs.declared.disk.DiskError.TheVariants.{Fault}
 
--- a disk or a world between two calls
+-- what is seen of a disk or a world between two calls: what stands at each path and whether that is told, the bytes of each
+-- file that it has held at its file information, how often it has failed, which orders are begun, and how many were
 pub record DiskView : Type 0 where
   -- what stands at a path in this form, where it is told
   pub at : List ℕ → Form → Info
@@ -24,16 +25,17 @@ pub record DiskView : Type 0 where
   -- how many orders were begun: still at the greatest u64
   pub begins : ℕ
 
--- the map gives all of these bytes
+-- the bytes are told, and the map gives them all
 abbrev pub Agrees : Option (List FileVersion) → List FileVersion → Type 0
 Agrees None m = ⊥
 Agrees (Some held) m = (k : FileVersion) → In k held → text_at m k.path k.info ≡ k.text
 
+-- the flag is set
 abbrev pub told_if : Bool → Type 0
 told_if true = Unit {0}
 told_if false = ⊥
 
--- what stands is told
+-- what stands at each path is told
 abbrev pub Told : DiskView → Type 0
 Told d = told_if d.told
 
@@ -41,11 +43,11 @@ Told d = told_if d.told
 abbrev pub Tells : DiskView → List FileVersion → Type 0
 Tells d m = Agrees d.held m
 
--- a disk or a world of which nothing is told
+-- the view of a disk or a world of which only the count of faults, the orders and how many were begun are known
 abbrev pub untold : ℕ → List Order → ℕ → DiskView
 untold faults orders begins = record { at = λ p f. Missing; told = false; held = None; faults = faults; orders = orders; begins = begins }
 
--- a sink between two calls
+-- what is seen of a sink between two calls: all that was written, where it is told, and how often it has failed
 pub record SinkView : Type 0 where
   -- all that was written, where it is told
   pub bytes : Option (List ℕ)
@@ -60,15 +62,15 @@ next_count n = min (n + 1) (2 ^ 64 - 1)
 abbrev pub Rose : ℕ → ℕ → Type 0
 Rose before now = next_count before ≤ now
 
--- the disk failed
+-- the disk's count of faults rose, or stands at the greatest u64
 abbrev pub DiskFailed : DiskView → DiskView → Type 0
 DiskFailed old new = Rose old.faults new.faults
 
--- the sink failed
+-- the sink's count of faults rose, or stands at the greatest u64
 abbrev pub SinkFailed : SinkView → SinkView → Type 0
 SinkFailed old new = Rose old.faults new.faults
 
--- what tells at exit told at entry, for the same map
+-- what is told at exit was told at entry, for the same map of contents
 pub record Keeps (old new : DiskView) : Type 0 where
   pub infos : Told new → Told old
   pub contents : (m : List FileVersion) → Tells new m → Tells old m
@@ -81,11 +83,11 @@ pub record Stayed (old new : DiskView) : Type 0 where
   pub orders : new.orders ≡ old.orders
   pub begins : new.begins ≡ old.begins
 
--- a fault comes only where the count rose, and the count never falls
+-- a fault comes only where the count of faults rose, and that count never falls
 pub record HasCause {T : Type 0} (old new : DiskView) (result : Result T DiskError) : Type 0 where
   pub later : old.faults ≤ new.faults
   pub rose : IsErrOf result Fault → DiskFailed old new
 
--- told bytes grew by these
+-- the bytes told at exit are those told at entry and then this piece
 abbrev pub Grew : SinkView → SinkView → List ℕ → Type 0
 Grew old new piece = (b : List ℕ) → new.bytes ≡ Some b → (a : List ℕ) × (old.bytes ≡ Some a) × (b ≡ a ++ piece)

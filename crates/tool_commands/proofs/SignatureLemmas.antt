@@ -110,7 +110,7 @@ shell_meaning c = shell_of c.signature c.args (map variable_of c.env) c.inherit_
 is_shell : (c : Command) → c.tool ≡ tools.Shell → (meaning_of c).tool ≡ shell_meaning c
 is_shell c e = ap (λ t. tool_in t c) e
 
--- the parts of a shell command's signature, one behind the other
+-- the parts of a shell command's signature, one after the other
 pub signature_spelled : (c : Command) → c.tool ≡ tools.Shell
     → signature_of (meaning_of c) ≡ 1 ∷ list_bytes key_bytes (map key_of c.inputs) ++ list_bytes key_bytes (map key_of c.follow) ++ list_bytes node_bytes c.outputs
     ++ flag_bytes c.allow_missing ++ flag_bytes c.always

@@ -34,7 +34,7 @@ cut front b t small u =
 pub small_by : (b c : ℕ) → (b == c) ≡ true → c < 128 → b < 128
 small_by b c e h = omega (arith, eqb-true b c e)
 
--- behind a byte of ASCII
+-- after a byte of ASCII
 pub behind_ascii : (b : ℕ) (t : Text) → b < 128 → IsUtf8 (b ∷ t) → IsUtf8 t
 behind_ascii b t small u = (cut [] b t small u).after
 

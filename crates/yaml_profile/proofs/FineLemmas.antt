@@ -6,7 +6,7 @@ use Rattle.yaml_profile.specs.declared.error.Feature.{Feature}
 use Rattle.yaml_profile.specs.Text.{Text, Outcome, ◌>>=◌}
 use Rattle.yaml_profile.specs.Flow.{unless}
 
--- the value is so, and the text behind it is UTF-8
+-- the value is so, and the text after it is UTF-8
 abbrev pub Fine : {A : Type 0} → (A → Type 0) → Outcome A → Type 0
 Fine P o = IfOk o (λ x. P x.0 × IsUtf8 x.1)
 

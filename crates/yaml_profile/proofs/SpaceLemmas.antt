@@ -61,7 +61,7 @@ spaced_utf8 t u = past_space_utf8 AfterByte t u
 abbrev pub LineFine : Option Line → Type 0
 LineFine next = IfSome next (λ l. IsUtf8 l.1)
 
--- behind the start of a line, or somewhere in one
+-- after the start of a line, or somewhere in one
 abbrev Begun : Option ℕ → Text → Type 0
 Begun None t = IsTail t
 Begun (Some column) t = IsUtf8 t

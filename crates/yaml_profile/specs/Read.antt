@@ -11,6 +11,7 @@ use Rattle.yaml_profile.specs.declared.yaml.Yaml.{Yaml}
 use Rattle.yaml_profile.specs.Text.{Text}
 use Rattle.yaml_profile.specs.Block.{document}
 
+-- the error of a fault at this place
 abbrev pub error_at : Fault → ℕ → YamlError
 error_at (fault.LeftOut feature) at = LeftOut feature at
 error_at fault.Indent at = Indent at
@@ -18,12 +19,12 @@ error_at fault.TooDeep at = TooDeep at
 error_at fault.RepeatedKey at = RepeatedKey at
 error_at fault.Syntax at = Syntax at
 
--- a refusal by its place from the text's start
+-- a refusal by its place, counted from the text's start
 abbrev pub placed : Text → Result Yaml Refusal → Result Yaml YamlError
 placed t (Ok tree) = Ok tree
 placed t (Err refusal) = Err (error_at refusal.fault (length t - refusal.left))
 
--- the tree of a text, or its first refusal: a text that is too long first, then one that is not UTF-8
+-- the tree of a text, or its first refusal: a text that is too long comes first, then one that is not UTF-8
 unfoldable pub yaml_of : Text → Result Yaml YamlError
 yaml_of t =
     if nat_lt 67108864 (length t) then Err TooLong

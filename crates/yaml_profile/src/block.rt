@@ -17,7 +17,7 @@ use std::alloc::Global;
 /// A node, and the next line that is no part of it.
 pub type Node<'a> = (Yaml, Option<Line<'a>>);
 
-// An inline node, behind which no more than white and a comment stand on its line.
+// An inline node, after which no more than white and a comment stand on its line.
 #[tactic(auto, unfolding(crate::specs::Block::alone))]
 fn alone(alloc: Global, depth: usize, text: &[u8]) -> Result<Node<'_>, Stop>
     ensures reads { Gives (λ x. (x.0, spec.seen x.1)) result (spec.alone depth text.now) }
@@ -123,7 +123,7 @@ fn below<'a>(
     Ok((Yaml::Scalar(List::new(alloc)), Some(line)))
 }
 
-// The value behind a colon.
+// The value after a colon.
 #[cycle(block)]
 #[tactic(auto, unfolding(crate::specs::Block::map_value))]
 fn map_value(alloc: Global, depth: usize, column: usize, text: &[u8]) -> Result<Node<'_>, Stop>
@@ -138,7 +138,7 @@ fn map_value(alloc: Global, depth: usize, column: usize, text: &[u8]) -> Result<
     alone(alloc, depth, past_white(text))
 }
 
-// The item behind a dash.
+// The item after a dash.
 #[cycle(block)]
 #[tactic(auto, unfolding(crate::specs::Block::item))]
 fn item(alloc: Global, depth: usize, column: usize, text: &[u8]) -> Result<Node<'_>, Stop>

@@ -72,7 +72,7 @@ fn hex<'a>(whole: &[u8], count: usize, text: &'a [u8]) -> Result<(char, &'a [u8]
     }
 }
 
-// The character that an escape stands for, behind the backslash that `whole` begins with.
+// The character that an escape stands for, after the backslash that `whole` begins with.
 #[tactic(auto, unfolding(crate::specs::Scalar::escape))]
 fn escape<'a>(whole: &[u8], text: &'a [u8]) -> Result<(char, &'a [u8]), Stop>
     ensures reads { Gives (λ x. (x.0, x.1.now)) result (spec.escape whole.now text.now) }
@@ -90,7 +90,7 @@ fn escape<'a>(whole: &[u8], text: &'a [u8]) -> Result<(char, &'a [u8]), Stop>
     }
 }
 
-/// The text between double quotes, and what follows it. The reader stands behind the opening quote.
+/// The text between double quotes, and what follows it. The reader stands after the opening quote.
 #[tactic(auto, unfolding(crate::specs::Scalar::double))]
 pub fn double(alloc: Global, text: &[u8]) -> Result<(Vec<u8>, &[u8]), Stop>
     ensures reads { Gives (λ x. (x.0.items, x.1.now)) result (spec.double_quoted text.now) }

@@ -64,7 +64,7 @@ pub fn inline(alloc: Global, depth: usize, flow: bool, text: &[u8]) -> Result<(Y
     }
 }
 
-// The sequence behind `[`, and what follows it.
+// The sequence after `[`, and what follows it.
 #[cycle(inline)]
 #[tactic(auto, unfolding(crate::specs::Flow::items))]
 fn sequence(alloc: Global, depth: usize, text: &[u8]) -> Result<(Yaml, &[u8]), Stop>
@@ -92,7 +92,7 @@ fn sequence(alloc: Global, depth: usize, text: &[u8]) -> Result<(Yaml, &[u8]), S
     }
 }
 
-// The value behind a key, which is the empty scalar where none stands, and what follows it.
+// The value after a key, which is the empty scalar where none stands, and what follows it.
 #[cycle(inline)]
 #[tactic(auto, unfolding(crate::specs::Flow::value_of))]
 fn value_of(alloc: Global, depth: usize, text: &[u8]) -> Result<(Yaml, &[u8]), Stop>
@@ -110,7 +110,7 @@ fn value_of(alloc: Global, depth: usize, text: &[u8]) -> Result<(Yaml, &[u8]), S
     inline(alloc, depth, true, start)
 }
 
-// The mapping behind `{`, and what follows it.
+// The mapping after `{`, and what follows it.
 #[cycle(inline)]
 #[tactic(auto, unfolding(crate::specs::Flow::pairs))]
 fn mapping(alloc: Global, depth: usize, text: &[u8]) -> Result<(Yaml, &[u8]), Stop>

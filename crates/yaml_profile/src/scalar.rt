@@ -9,7 +9,7 @@ use crate::fault::{Fault, Stop};
 use crate::text::{ends_line, is_flow_mark, is_gap, is_white, refused};
 use std::alloc::Global;
 
-// The text between single quotes, and what follows it. The reader stands behind the opening quote.
+// The text between single quotes, and what follows it. The reader stands after the opening quote.
 #[tactic(auto, unfolding(crate::specs::Scalar::single))]
 fn single(alloc: Global, text: &[u8]) -> Result<(Vec<u8>, &[u8]), Stop>
     ensures reads { Gives (λ x. (x.0.items, x.1.now)) result (spec.single [] false text.now) }
@@ -82,7 +82,7 @@ fn ends_plain(flow: bool, white: bool, text: &[u8]) -> bool
         || (white && *first == b'#')
 }
 
-// How many bytes a plain scalar takes. The text is what stands behind its first byte.
+// How many bytes a plain scalar takes. The text is what stands after its first byte.
 #[tactic(auto, unfolding(crate::specs::Scalar::plain_len))]
 fn plain_len(flow: bool, text: &[u8]) -> usize
     ensures value { result ≡ spec.plain_len flow false 1 1 text.now }

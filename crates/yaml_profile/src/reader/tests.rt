@@ -6,7 +6,7 @@ use std::process::Abort;
 use std::test::Fail;
 
 /// Texts and their trees. A text stands in `<` and `>`, the items of a sequence in `[` and `]`, the pairs of a mapping in
-/// `{` and `}`, and a `,` stands behind each item and each pair.
+/// `{` and `}`, and a `,` stands after each item and each pair.
 static TREES: &[(&str, &str)] = &[
     // Documents
     ("", "<>"),
@@ -302,7 +302,7 @@ fn refuses_at_the_first_place(rt: HostRuntime) -> Result<(), Fail> {
     Ok(())
 }
 
-// So many of a text, one behind the other.
+// So many of a text, one after the other.
 fn repeated(alloc: Global, text: &[u8], count: usize) -> Result<Vec<u8>, AllocError> {
     let mut all = Vec::new(alloc);
     for _ in 0..count {

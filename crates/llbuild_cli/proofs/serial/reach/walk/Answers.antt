@@ -13,7 +13,7 @@ is_marked marks k h e = slice_get-get_or marks k false h ∙ ap Some e
 is_free : (marks : List Bool) (k : ℕ) → k < length marks → get_or marks k false ≡ false → IsMarked marks k → ⊥
 is_free marks k h e f = let is : Some (get_or marks k false) ≡ Some true = sym (slice_get-get_or marks k false h) ∙ f in cc (e, is)
 
--- the walk begins behind the last command
+-- the walk begins after the last command
 begins : (cs : List Command) (wanted : List Input) (marks new : List Bool) (n : ℕ) → marks ≡ replicate (length cs) false → new ≡ with_makers cs marks wanted
     → n ≡ length cs → AreMarkedFrom cs wanted n new
 begins cs wanted marks new n none made whole = rw (whole, made) (begin_marks cs wanted marks none)
