@@ -8,7 +8,8 @@ use Rattle.build_meaning.specs.Fresh.{Sights}
 
 -- each path is an output of one command, at one place
 abbrev pub HasOneMaker : List Command → Type 0
-HasOneMaker cs = (c e : Command) (k j : ℕ) (p : List ℕ) → In c cs → In e cs → slice_get (paths_of c.outputs) k ≡ Some p → slice_get (paths_of e.outputs) j ≡ Some p → (c ≡ e) × (k ≡ j)
+HasOneMaker cs = (c e : Command) (k j : ℕ) (p : List ℕ) → In c cs → In e cs
+    → slice_get (paths_of c.outputs) k ≡ Some p → slice_get (paths_of e.outputs) j ≡ Some p → (c ≡ e) × (k ≡ j)
 
 -- each path was seen with one file information at most. Where it also has one maker at most, it has one content at most: the
 -- law `single_valued`

@@ -66,7 +66,8 @@ pub record FailedOne (c : Command) (exit : Exit) (before after : List Heard) : T
 -- order failed. Only then an end was heard.
 abbrev pub IsRunStop : ℕ → ℕ → ℕ → ℕ → (List ℕ → Info → Type 0) → Command → List Heard → List Heard → Stop → Type 0
 IsRunStop disk disk' sink sink' shown c before after (CommandFailed command exit) = (command ≡ c.name) × FailedOne c exit before after
-IsRunStop disk disk' sink sink' shown c before after (MissingInput asker node) = (asker ≡ c.name) × IsFirstMissing shown c.inputs node × (after ≡ before)
+IsRunStop disk disk' sink sink' shown c before after (MissingInput asker node) =
+    (asker ≡ c.name) × IsFirstMissing shown c.inputs node × (after ≡ before)
 IsRunStop disk disk' sink sink' shown c before after DiskFault = Rose disk disk' × (after ≡ before)
 IsRunStop disk disk' sink sink' shown c before after SinkFault = Rose sink sink' × (after ≡ before)
 IsRunStop disk disk' sink sink' shown c before after NoMemory = after ≡ before
@@ -91,7 +92,8 @@ pub record IsLastFailed (heard : List Heard) (command : List ℕ) (exit : Exit) 
 -- why a build stops, at the first failing event. Only at a failed command an order did not succeed, and only at a fault of
 -- the disk or for want of memory the order of a start may have no end.
 abbrev pub IsBuildStop : ℕ → ℕ → ℕ → ℕ → (List ℕ → Info → Type 0) → List Command → TargetEntry → List Start → List Heard → Stop → Type 0
-IsBuildStop disk disk' sink sink' shown commands target starts heard (CommandFailed command exit) = IsLastFailed heard command exit × AllEnded starts heard
+IsBuildStop disk disk' sink sink' shown commands target starts heard (CommandFailed command exit) =
+    IsLastFailed heard command exit × AllEnded starts heard
 IsBuildStop disk disk' sink sink' shown commands target starts heard (MissingInput asker node) =
     IsStuck commands target shown starts asker node × AllDone heard × AllEnded starts heard
 IsBuildStop disk disk' sink sink' shown commands target starts heard DiskFault = Rose disk disk' × AllDone heard
@@ -102,7 +104,8 @@ IsBuildStop disk disk' sink sink' shown commands target starts heard NoMemory = 
 -- missing. A part of the summary was written at most, and at the others nothing.
 abbrev pub IsFinishStop : ℕ → ℕ → ℕ → ℕ → SinkView → SinkView → (List ℕ → Info → Type 0) → TargetEntry → List ℕ → Stop → Type 0
 IsFinishStop disk disk' sink sink' old new shown target text (CommandFailed command exit) = ⊥
-IsFinishStop disk disk' sink sink' old new shown target text (MissingInput asker node) = (asker ≡ target.name) × IsFirstMissing shown target.nodes node × Grew old new []
+IsFinishStop disk disk' sink sink' old new shown target text (MissingInput asker node) =
+    (asker ≡ target.name) × IsFirstMissing shown target.nodes node × Grew old new []
 IsFinishStop disk disk' sink sink' old new shown target text DiskFault = Rose disk disk' × Grew old new []
 IsFinishStop disk disk' sink sink' old new shown target text SinkFault = Rose sink sink' × GrewByPart old new text
 IsFinishStop disk disk' sink sink' old new shown target text NoMemory = GrewByPart old new text

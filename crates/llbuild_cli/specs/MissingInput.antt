@@ -42,7 +42,8 @@ abbrev pub IsAsker : List Command → TargetEntry → List Start → List ℕ �
 IsAsker commands target starts asker inputs = AsksNext commands target starts asker inputs ⊎ AsksLast commands target starts asker inputs
 
 -- what is next has this name, and the first of its inputs that is missing is written so
-pub record IsStuck (commands : List Command) (target : TargetEntry) (seen : List ℕ → Info → Type 0) (starts : List Start) (asker node : List ℕ) : Type 0 where
+pub record IsStuck (commands : List Command) (target : TargetEntry) (seen : List ℕ → Info → Type 0) (starts : List Start)
+    (asker node : List ℕ) : Type 0 where
   pub inputs : List Input
   pub asks : IsAsker commands target starts asker inputs
   pub first : IsFirstMissing seen inputs node
@@ -50,7 +51,8 @@ pub record IsStuck (commands : List Command) (target : TargetEntry) (seen : List
 -- where what is next lacks an input while each order ended and succeeded, the build stops so, or no memory was left
 abbrev pub StopsAtMissing : List Command → TargetEntry → (List ℕ → Info → Type 0) → List Start → List Heard → Stop → Type 0
 StopsAtMissing commands target seen starts heard stop =
-    (asker node : List ℕ) → IsStuck commands target seen starts asker node → AllDone heard → AllEnded starts heard → (stop ≡ MissingInput asker node) ⊎ (stop ≡ NoMemory)
+    (asker node : List ℕ) → IsStuck commands target seen starts asker node → AllDone heard → AllEnded starts heard
+    → (stop ≡ MissingInput asker node) ⊎ (stop ≡ NoMemory)
 
 -- the start is that of the command, whose inputs were read
 pub record IsStartOn (seen : List ℕ → Info → Type 0) (c : Command) (start : Start) : Type 0 where

@@ -63,7 +63,12 @@ are_attributes ps = all_served ps && names_differ ps
 
 -- the values of the pairs, each by its name
 abbrev pub values_of : List Pair → Attributes
-values_of ps = record { tool = value_of tool_text ps; inputs = value_of inputs_text ps; outputs = value_of outputs_text ps; args = value_of args_text ps }
+values_of ps = record {
+  tool = value_of tool_text ps;
+  inputs = value_of inputs_text ps;
+  outputs = value_of outputs_text ps;
+  args = value_of args_text ps;
+}
 
 -- the values of attributes, where the pairs are such
 unfoldable pub attributes_of : List Pair → Option Attributes

@@ -22,7 +22,8 @@ abbrev pub default_of : List TargetEntry → Option ℕ → Option TargetEntry
 default_of targets place = option_and_then (slice_get targets) place
 
 -- each table of a manifest answers what a walk over its lists would
-pub record IsIndexed {A B S R : Type 0} (targets : List TargetEntry) (target_places : IndexMap (String A) ℕ S) (commands : List Command) (command_places : IndexMap (String B) ℕ R) (makers : Makers) : Type 0 where
+pub record IsIndexed {A B S R : Type 0} (targets : List TargetEntry) (target_places : IndexMap (String A) ℕ S)
+    (commands : List Command) (command_places : IndexMap (String B) ℕ R) (makers : Makers) : Type 0 where
   pub targets_placed : (name : List ℕ) → get_by_text target_places name ≡ target_place targets name
   pub commands_placed : (name : List ℕ) → get_by_text command_places name ≡ command_place commands name
   pub makers_noted : (node : NodeName) → noted_maker makers node ≡ maker_of commands node

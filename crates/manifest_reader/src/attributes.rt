@@ -80,7 +80,8 @@ impl Attributes {
     // Takes one more pair: its name is that of an attribute that is not given so far.
     fn take(&mut self, pair: Pair) -> Result<(), LoadError>
         ensures taken { OnOk result ((ps : Items Entry) → AreSorted ps self.old → AreSorted (ps ++ pair ∷ []) self.new) }
-        ensures refused { IfErr result (λ e. Refuses e ((ps qs : Items Entry) → AreSorted ps self.old → spec.are_attributes (ps ++ pair ∷ qs) ≡ false)) }
+        ensures refused { IfErr result (λ e. Refuses e ((ps qs : Items Entry) → AreSorted ps self.old
+            → spec.are_attributes (ps ++ pair ∷ qs) ≡ false)) }
     {
         let Pair { name, value } = pair;
         match attribute_of(name.as_slice()) {

@@ -37,7 +37,8 @@ impl Makers {
     // Notes the maker of a node. `NotYet` where the node has one.
     fn add(&mut self, alloc: Global, node: &NodeName, place: usize) -> Result<(), LoadError>
         ensures passes { Passes result (is_none (noted_maker self.old node.now)) }
-        ensures noted { OnOk result ((n : Node) → noted_maker self.new n ≡ option_or (noted_maker self.old n) (cond (is_node n node.now) (Some place) None)) }
+        ensures noted { OnOk result ((n : Node) → noted_maker self.new n
+            ≡ option_or (noted_maker self.old n) (cond (is_node n node.now) (Some place) None)) }
     {
         match node {
             NodeName::Path(path) => note(alloc, &mut self.paths, path.text(), place),
@@ -53,7 +54,8 @@ impl Makers {
         place: usize,
     ) -> Result<(), LoadError>
         ensures passes { Passes result (are_new is_node (noted_maker self.old) nodes.now) }
-        ensures noted { OnOk result ((n : Node) → noted_maker self.new n ≡ option_or (noted_maker self.old n) (cond (list_any (is_node n) nodes.now) (Some place) None)) }
+        ensures noted { OnOk result ((n : Node) → noted_maker self.new n
+            ≡ option_or (noted_maker self.old n) (cond (list_any (is_node n) nodes.now) (Some place) None)) }
     {
         for node in nodes.as_slice() {
             self.add(alloc, node, place)?;

@@ -18,7 +18,8 @@ pub type Places = IndexMap<String, usize>;
 /// Notes the place of a text. `NotYet` where the text has one.
 pub fn note(alloc: Global, places: &mut Places, text: &str, place: usize) -> Result<(), LoadError>
     ensures passes { Passes result (is_none (get_by_text places.old text.now)) }
-    ensures noted { OnOk result ((q : Items ℕ) → get_by_text places.new q ≡ option_or (get_by_text places.old q) (cond (bytes_eq q text.now) (Some place) None)) }
+    ensures noted { OnOk result ((q : Items ℕ) → get_by_text places.new q
+        ≡ option_or (get_by_text places.old q) (cond (bytes_eq q text.now) (Some place) None)) }
 {
     let text = String::from_str(alloc, text)?;
     match places.insert(text, place)? {

@@ -160,7 +160,8 @@ unfoldable pub dashes : Node → ℕ → Bool → ℕ → ℕ → List Yaml → 
 dashes block depth held column zero found t = refuse Syntax t
 dashes block depth held column (suc n) found t = do
   value ← item block depth column (drop 1 t)
-  after_entry (Seq (found ++ value.0 ∷ [])) column (after_dash held (Seq (found ++ value.0 ∷ [])) (dashes block depth held column n (found ++ value.0 ∷ []))) value.1
+  after_entry (Seq (found ++ value.0 ∷ [])) column
+      (after_dash held (Seq (found ++ value.0 ∷ [])) (dashes block depth held column n (found ++ value.0 ∷ []))) value.1
 
 -- the sequence at this column. The flag says that a mapping of the same column holds it
 abbrev pub sequence : Node → ℕ → Bool → ℕ → Text → Blocks

@@ -82,7 +82,8 @@ closes flow (b ∷ t) = is_gap (b ∷ t) || (flow && is_flow_mark b)
 
 -- whether the byte is one that no plain scalar begins with
 abbrev pub is_indicator : ℕ → Bool
-is_indicator b = is_flow_mark b || b == 35 || b == 38 || b == 42 || b == 33 || b == 124 || b == 62 || b == 39 || b == 34 || b == 37 || b == 64 || b == 96
+is_indicator b =
+    is_flow_mark b || b == 35 || b == 38 || b == 42 || b == 33 || b == 124 || b == 62 || b == 39 || b == 34 || b == 37 || b == 64 || b == 96
 
 -- whether a plain scalar begins here
 abbrev pub begins_plain : Bool → Text → Bool
