@@ -20,7 +20,7 @@ use Rattle.build_meaning.specs.Fresh.{nodes_read, as_read}
 use Rattle.llbuild_cli.specs.declared.stop.Stop.{Stop}
 use Rattle.llbuild_cli.specs.declared.stop.Stop.TheVariants.{CommandFailed, MissingInput, DiskFault, SinkFault, NoMemory}
 use Rattle.build_meaning.proofs.PlaceLemmas.{In-map-back}
-use Rattle.llbuild_cli.specs.Input.{SeenAs, IsRead, AreRead, IsFirstMissing}
+use Rattle.llbuild_cli.specs.Input.{SeenAs, IsRead, AreRead}
 use Rattle.llbuild_cli.specs.Stop.{IsDiskStop, IsReadStop, IsInputStop}
 
 -- what is seen goes over into another way to see
@@ -38,18 +38,6 @@ all_read_on more [] [] h = tt
 all_read_on more [] (r ∷ rs) h = absurd h
 all_read_on more (i ∷ is) [] h = absurd h
 all_read_on more (i ∷ is) (r ∷ rs) h = (read_on more h.0, all_read_on more is rs h.1)
-
-pub first_missing_on : {old new : List ℕ → Info → Type 0} {inputs : List Input} {node : List ℕ} → SeesAll old new → IsFirstMissing old inputs node → IsFirstMissing new inputs node
-first_missing_on more f = record {
-  before = f.before;
-  input = f.input;
-  after = f.after;
-  inputs_are = f.inputs_are;
-  reads = f.reads;
-  there = all_read_on more f.before f.reads f.there;
-  missing = seen_on more f.missing;
-  written_is = f.written_is;
-}
 
 pub read_more : {seen : List ℕ → Info → Type 0} {input : Input} {read : Read} (inputs : List Input) (reads : List Read)
     → AreRead seen inputs reads → IsRead seen input read → AreRead seen (inputs ++ input ∷ []) (reads ++ read ∷ [])

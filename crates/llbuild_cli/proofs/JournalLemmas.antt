@@ -99,13 +99,6 @@ heard_shown stats heard h p i (inr w) = elim (In-either w.0 heard (h ∷ []) w.1
   | inr k ↦ inr (subst (λ (z : Heard). GivesInfo z.order.outputs z.outcome p i) (In-one k) w.1.1)
 ]
 
-pub index_new : (look : List ℕ → Option Info) → ((p : List ℕ) → look p ≡ None) → IsIndex [] [] look
-index_new look none = record {
-  shown = λ p i e. (let n = none p in cc (e, n));
-  all = λ p i s. elim s [ inl k ↦ absurd k | inr w ↦ absurd w.1.0 ];
-  sources = tt;
-}
-
 -- one source more
 pub index_source : (stats : List StatSeen) (heard : List Heard) (path : List ℕ) (info : Info) (old new : List ℕ → Option Info)
     → IsIndex stats heard old → Noted path info old new → ((i : Info) → Shows stats heard path i → ⊥) → IsIndex (stats ++ record { path = path; info = info } ∷ []) heard new

@@ -215,12 +215,6 @@ first_more {c} named one all =
       orders = λ h i. elim (one.orders h i) [ inl k ↦ was.orders h k | inr n ↦ (c, (named, n)) ];
     }
 
-pub none_first : (commands : List Command) (seen : List ℕ → Info → Type 0) (starts : List Start) (heard : List Heard) → starts ≡ [] → heard ≡ [] → AllReadFirst commands seen starts heard
-none_first commands seen starts heard s h = record {
-  started = λ x i. absurd (subst (λ (ss : List Start). In x ss) s i);
-  orders = λ x i. absurd (subst (λ (hs : List Heard). In x hs) h i);
-}
-
 -- what was shown is shown where more orders ended
 heard_shows : (old new : List StatSeen) (heard then : List Heard) → new ≡ old → ((h : Heard) → In h heard → In h then) → SeesAll (Shows old heard) (Shows new then)
 heard_shows old new heard then stats more p i s = elim s [

@@ -34,9 +34,6 @@ taken_one e o [] after h = (cc h, cc h)
 taken_one e o (b ∷ []) after h = cc h
 taken_one e o (b ∷ (d ∷ before)) after h = cc h
 
-pub written_none : (orders : List Order) (p : List ℕ) → orders ≡ [] → IsWritten orders p → ⊥
-written_none orders p none w = subst (λ (os : List Order). In w.0 os) none w.1
-
 pub written_one : (orders : List Order) (order : Order) (c : Command) (p : List ℕ) → orders ≡ order ∷ [] → order.outputs ≡ paths_of c.outputs → order.deps ≡ []
     → IsWritten orders p → IsOutput c p
 written_one orders order c p one outputs deps w =

@@ -10,7 +10,7 @@ use Rattle.build_meaning.proofs.PlaceLemmas.{In-left, In-either, In-one, In-get,
 use Rattle.build_meaning.proofs.FreshLemmas.{Fresh-more}
 use Rattle.build_meaning.specs.Fresh.{Does, Sights, IsMade, source}
 use Rattle.build_report.specs.declared.report.StatSeen.{StatSeen}
-use Rattle.llbuild_cli.specs.Journal.{Journal, Knows, IsUnknown, unused}
+use Rattle.llbuild_cli.specs.Journal.{Journal, Knows, IsUnknown}
 use Rattle.llbuild_cli.specs.Look.{IsNew, Looked}
 use Rattle.llbuild_cli.specs.Move.{Moved}
 use Rattle.llbuild_cli.specs.Sight.{sights_of}
@@ -43,19 +43,6 @@ In-drop-more x n xs i = drop_suc x n xs (subst (λ (k : ℕ). In x (drop k xs)) 
 
 pub made_more : (n : ℕ) (commands : List Command) (p : List ℕ) → IsMade (drop (n + 1) commands) p → IsMade (drop n commands) p
 made_more n commands p h = record { by = h.by; named = In-drop-more h.by n commands h.named; output = h.output }
-
-pub stands_first : {does : Does} {commands : List Command} {marks : List Bool} {w : DiskView} {seen : Journal} → seen ≡ unused → Stands does commands marks 0 w seen
-stands_first {does} {commands} {marks} {w} {seen} same = subst (λ (j : Journal). Stands does commands marks 0 w j) (sym same) (record {
-  stand = λ t p i k. absurd (nothing p i k);
-  fresh = λ m t p i k. absurd (nothing p i k);
-  done = λ k c p h. absurd (omega arith);
-  later = λ p i k h. nothing p i k;
-  sources = λ p i s h. s;
-})
-  where
-    nothing : (p : List ℕ) (i : Info) → Knows unused p i → ⊥
-    nothing p i (inl s) = s
-    nothing p i (inr w) = w.1.0
 
 -- some paths were asked for, and what is written was not seen before
 pub stands_looked : {does : Does} {commands : List Command} {marks : List Bool} {place : ℕ} {w v : DiskView} {a b : Journal} {asked written : List ℕ → Type 0}

@@ -168,13 +168,6 @@ ticket_more heard one then old ticket more k h at_k = elim (place_more heard one
 nothing_there : (k : ℕ) (h : Heard) → slice_get [] k ≡ Some h → ⊥
 nothing_there k h e = cc e
 
--- where nothing was heard there is no order
-pub no_orders : (commands : List Command) (heard : List Heard) → heard ≡ [] → AreOrders commands heard
-no_orders commands heard none = record {
-  each = λ h i. absurd (subst (λ (hs : List Heard). In h hs) none i);
-  tickets = λ k h at_k. absurd (nothing_there k h (subst (λ (hs : List Heard). slice_get hs k ≡ Some h) none at_k));
-}
-
 -- as many orders ended as commands were started
 pub even_names : (starts : List Start) (heard : List Heard) → heard_names heard ≡ start_names starts → length heard ≡ length starts
 even_names starts heard names = sym (length-map heard (λ (h : Heard). h.order.command)) ∙ ap length names ∙ length-map starts (λ (s : Start). s.command)

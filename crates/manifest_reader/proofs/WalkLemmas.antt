@@ -1,9 +1,9 @@
 -- A walk over a list whose items are noted.
-use Rattle.std.proofs.Common.{◌≡◌, ℕ, ◌+◌, ◌<◌, ◌≤◌, Bool, true, false, not, ◌&&◌, cond, List, ◌∷◌, ◌++◌, length, drop, get_or, map, Option, Some, None, refl, sym, ap, ◌∙◌}
+use Rattle.std.proofs.Common.{◌≡◌, ℕ, ◌+◌, ◌<◌, Bool, true, false, not, ◌&&◌, cond, List, ◌∷◌, ◌++◌, length, drop, get_or, map, Option, Some, None, refl, sym, ap, ◌∙◌}
 use Rattle.std.specs.Prelude.{bytes_eq}
 use Rattle.std.specs.List.{list_any, list_all}
 use Rattle.std.specs.Option.{option_or, is_none}
-use Rattle.std.proofs.lemmas.List.{at_drop_more, at_drop_all}
+use Rattle.std.proofs.lemmas.List.{at_drop_more}
 use Rattle.file_info.specs.declared.node.NodeName.{NodeName}
 use Rattle.manifest_reader.specs.declared.error.LoadError.{LoadError}
 use Rattle.manifest_reader.specs.declared.error.LoadError.TheVariants as load
@@ -47,10 +47,6 @@ names_stop name xs i x text whole place h e same before taken =
     ∙ ap (λ (b : Bool). b && not (list_any (bytes_eq (name x)) (map name (drop (i + 1) xs))) && are_new bytes_eq place (map name (drop (i + 1) xs)))
     (ap (λ (t : List ℕ). is_none (place t)) (sym same) ∙ taken)
 
-pub names_end : {X : Type 0} (name : X → List ℕ) (xs : List X) (i : ℕ) (whole : Bool) (place : List ℕ → Option ℕ) → length xs ≤ i
-    → whole ≡ are_new bytes_eq place (map name (drop i xs)) → whole ≡ true
-names_end name xs i whole place h before = before ∙ at_drop_all (λ l. are_new bytes_eq place (map name l)) xs i h
-
 -- nodes of one command
 pub nodes_next : (xs : List NodeName) (i : ℕ) (x : NodeName) (at : ℕ) (whole : Bool) (place now : NodeName → Option ℕ) → i < length xs → x ≡ get_or xs i x
     → whole ≡ are_new is_node place (drop i xs) → ((n : NodeName) → now n ≡ option_or (place n) (cond (is_node n x) (Some at) None)) → is_none (place x) ≡ true
@@ -58,12 +54,6 @@ pub nodes_next : (xs : List NodeName) (i : ℕ) (x : NodeName) (at : ℕ) (whole
 nodes_next xs i x at whole place now h e before noted free =
     before ∙ left_next (are_new is_node place) xs i x h e ∙ new_first is_node node_swap place now x at noted (drop (i + 1) xs)
     ∙ ap (λ (b : Bool). b && are_new is_node now (drop (i + 1) xs)) free
-
-pub nodes_stop : (xs : List NodeName) (i : ℕ) (x : NodeName) (whole : Bool) (place : NodeName → Option ℕ) → i < length xs → x ≡ get_or xs i x
-    → whole ≡ are_new is_node place (drop i xs) → is_none (place x) ≡ false → whole ≡ false
-nodes_stop xs i x whole place h e before taken =
-    before ∙ left_next (are_new is_node place) xs i x h e
-    ∙ ap (λ (b : Bool). b && not (list_any (is_node x) (drop (i + 1) xs)) && are_new is_node place (drop (i + 1) xs)) taken
 
 -- the outputs of commands
 pub outputs_next : (xs : List Command) (i : ℕ) (x : Command) (whole : Bool) (place now : NodeName → Option ℕ) → i < length xs → x ≡ get_or xs i x
@@ -83,10 +73,6 @@ pub outputs_stop : (xs : List Command) (i : ℕ) (x : Command) (whole : Bool) (p
     → whole ≡ are_new is_node place (all_outputs (drop i xs)) → are_new is_node place x.outputs ≡ false → whole ≡ false
 outputs_stop xs i x whole place h e before taken =
     before ∙ left_next (λ l. are_new is_node place (all_outputs l)) xs i x h e ∙ outputs_apart place x.outputs (all_outputs (drop (i + 1) xs)) taken
-
-pub outputs_end : (xs : List Command) (i : ℕ) (whole : Bool) (place : NodeName → Option ℕ) → length xs ≤ i
-    → whole ≡ are_new is_node place (all_outputs (drop i xs)) → whole ≡ true
-outputs_end xs i whole place h before = before ∙ at_drop_all (λ l. are_new is_node place (all_outputs l)) xs i h
 
 -- the order of the commands
 order_step : (xs : List Command) (i : ℕ) (x : Command) (place : NodeName → Option ℕ) → i < length xs → x ≡ get_or xs i x
