@@ -17,7 +17,7 @@ TOP = pathlib.Path(__file__).resolve().parent.parent
 PAGE = TOP / "docs" / "DEFINITIONS.md"
 HEAD = """# Definitions
 
-What the contracts cite, in plain words, crate by crate. Each table is a file of the folder `specs/` of its crate. `docs/definitions.py` writes this page from the comments above the definitions, so a change belongs there. A byte is a number, a text is the list of its bytes, and a list is a list: contracts see neither addresses nor room. A value at a path, at one moment, is called its *file information*.
+What the contracts cite, in plain words, crate by crate. Each table is a file of the folder `specs/` of its crate. `docs/definitions.py` writes this page from the comments above the definitions, so a change belongs there. A byte is a number, a text is the list of its bytes, and a list is a list: contracts see neither addresses nor room. What stands at a path at one moment, as a disk answers it, is its *file information*: nothing, a directory, a file with its size and stamp, or a link with its text.
 """
 DEFINITION = re.compile(r"\s*(?:(?:abbrev|unfoldable) )?pub (?:record|data) (\S+)"
                         r"|\s*(?:abbrev|unfoldable) pub (\S+)"
@@ -103,7 +103,7 @@ def write():
             missing += [f"{where}: {name}" for names, text in rows if not text for name in names]
             tables.append(f"### {title} (`{path.relative_to(specs)}`)\n" + (f"\n{rest}\n" if rest else ""))
             tables.append("| Name | In plain words |\n|---|---|\n" + "".join(
-                f"| {', '.join(f'`{cell(name)}`' for name in names)} | {cell(text)} |\n" for names, text in rows))
+                f"| {', '.join(f'`{cell(name)}`' for name in names)} | {cell(text.rstrip('.'))} |\n" for names, text in rows))
         if tables:
             page += [f"## {crate}\n"] + tables
     return "\n".join(page), missing

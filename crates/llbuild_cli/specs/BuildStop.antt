@@ -63,7 +63,7 @@ pub record FailedOne (c : Command) (exit : Exit) (before after : List Heard) : T
   pub failed : one.heard.outcome ≡ Failed exit
 
 -- why a command stops a build: the disk or the sink failed, no memory was left, its first missing input is this one, or its
--- order failed. Only then an end was heard.
+-- order failed. The end of an order was heard in the last case alone
 abbrev pub IsRunStop : ℕ → ℕ → ℕ → ℕ → (List ℕ → Info → Type 0) → Command → List Heard → List Heard → Stop → Type 0
 IsRunStop disk disk' sink sink' shown c before after (CommandFailed command exit) = (command ≡ c.name) × FailedOne c exit before after
 IsRunStop disk disk' sink sink' shown c before after (MissingInput asker node) =
@@ -89,8 +89,8 @@ pub record IsLastFailed (heard : List Heard) (command : List ℕ) (exit : Exit) 
   pub named : last.order.command ≡ command
   pub failed : last.outcome ≡ Failed exit
 
--- why a build stops, at the first failing event. Only at a failed command an order did not succeed, and only at a fault of
--- the disk or for want of memory the order of a start may have no end.
+-- why a build stops, at the first failing event. Only at a failed command did an order not succeed, and only at a fault of
+-- the disk or for want of memory may the order of a start have no end
 abbrev pub IsBuildStop : ℕ → ℕ → ℕ → ℕ → (List ℕ → Info → Type 0) → List Command → TargetEntry → List Start → List Heard → Stop → Type 0
 IsBuildStop disk disk' sink sink' shown commands target starts heard (CommandFailed command exit) =
     IsLastFailed heard command exit × AllEnded starts heard
@@ -101,7 +101,8 @@ IsBuildStop disk disk' sink sink' shown commands target starts heard SinkFault =
 IsBuildStop disk disk' sink sink' shown commands target starts heard NoMemory = AllDone heard
 
 -- why a build stops after its commands: the disk or the sink failed, no memory was left, or this node is the first that is
--- missing. A part of the summary was written at most, and at the others nothing.
+-- missing. Where the sink failed or no memory was left, a part of the summary may have been written, and otherwise nothing
+-- was
 abbrev pub IsFinishStop : ℕ → ℕ → ℕ → ℕ → SinkView → SinkView → (List ℕ → Info → Type 0) → TargetEntry → List ℕ → Stop → Type 0
 IsFinishStop disk disk' sink sink' old new shown target text (CommandFailed command exit) = ⊥
 IsFinishStop disk disk' sink sink' old new shown target text (MissingInput asker node) =

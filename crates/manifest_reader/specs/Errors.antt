@@ -26,7 +26,7 @@ error_of_path path.HasNul = load.NotYet
 error_of_path path.AboveRoot = load.NotYet
 error_of_path path.NoMemory = load.NoMemory
 
--- the error is just: a rule is broken, so that nothing is expected, or memory ran out
+-- the error has its cause: a rule is broken, so that nothing is expected, or memory ran out
 abbrev pub Refuses : LoadError → Type 0 → Type 0
 Refuses (load.Yaml e) broken = ⊥
 Refuses load.NotYet broken = broken

@@ -19,12 +19,12 @@ pub record IsFileNode (node : NodeName) : Type 0 where
   pub is : node ≡ Path path
   pub short : length path ≤ 4096
 
--- the input is such a file, read as one
+-- the input is such a file (`IsFileNode`), read as one
 pub record IsFileInput (input : Input) : Type 0 where
   pub node : IsFileNode input.node
   pub form : input.form ≡ File
 
--- at most 65,536 such inputs
+-- at most 65,536 inputs, each of them such a file (`IsFileInput`)
 pub record AreFileInputs (inputs : List Input) : Type 0 where
   pub few : length inputs ≤ 65536
   pub files : (i : Input) → In i inputs → IsFileInput i

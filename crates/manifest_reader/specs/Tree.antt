@@ -4,7 +4,7 @@ use Rattle.yaml_profile.specs.declared.yaml.Yaml.{Yaml, out-Yaml}
 use Rattle.yaml_profile.specs.declared.yaml.Yaml.TheOpen.{Yaml-F}
 use Rattle.yaml_profile.specs.declared.yaml.Pair.{Pair, out-Pair}
 
--- what is read on with what is there, and nothing where nothing is
+-- what `f` gives for what is there, and nothing where nothing is
 infixl 10 ◌>>=◌
 abbrev pub ◌>>=◌ : {A B : Type 0} → Option A → (A → Option B) → Option B
 None >>= f = None

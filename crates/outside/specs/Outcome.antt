@@ -25,15 +25,15 @@ Agree xs ys = (p : List ℕ) (a b : Content) → In (p, a) xs → In (p, b) ys �
 abbrev pub IsWritten : List Order → List ℕ → Type 0
 IsWritten orders path = (o : Order) × In o orders × (In path o.outputs ⊎ In path o.deps)
 
--- but for what these orders write nothing differs
+-- nothing differs but what these orders write
 abbrev pub SameBut : List Order → (List ℕ → Form → Info) → (List ℕ → Form → Info) → Type 0
 SameBut orders old new = (p : List ℕ) (f : Form) → (IsWritten orders p → ⊥) → new p f ≡ old p f
 
--- what was a directory is one
+-- what was a directory still is one
 abbrev pub KeepsDirectories : (List ℕ → Form → Info) → (List ℕ → Form → Info) → Type 0
 KeepsDirectories old new = (p : List ℕ) (f : Form) → old p f ≡ infos.Directory → new p f ≡ infos.Directory
 
--- the order was one of these, and the rest is left
+-- the order was one of the old ones, and the others are left in their order
 abbrev pub TakenOut : Order → List Order → List Order → Type 0
 TakenOut order old new = (before : List Order) × (after : List Order) × (old ≡ before ++ order ∷ after) × (new ≡ before ++ after)
 
@@ -68,7 +68,7 @@ StandsAs at links path (Structure entries) = (e : ShapeEntry) → In e entries �
 abbrev pub Unchanged : (List ℕ → Form → Info) → Order → Type 0
 Unchanged at order = (r : Read) → In r order.reads → StandsAs at order.links (node_text r.node) r.reading
 
--- how an output is asked for: what makes a link is known by it
+-- how an output is asked for: it is not followed where the order makes a link or it stands among the links
 abbrev pub output_form : Order → List ℕ → Form
 output_form order path = act_form order.act
   where
