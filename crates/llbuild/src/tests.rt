@@ -16,6 +16,7 @@ use real_world::world::RealWorld;
 use std::alloc::Global;
 use std::fs;
 use std::process::Abort;
+use std::str::Split;
 use std::test::Fail;
 
 mod words;
@@ -214,162 +215,104 @@ fn needed_commands_are_built(rt: HostRuntime) -> Result<(), Fail> {
     Ok(())
 }
 
-// Runs that end with another end than `Ok`: the manifest, the text of `s`, the words, and then the end, the status and
-// what is written.
-const ROWS: [(&str, Option<&str>, &str, &str, u8, &str, &str); 12] = [
-    (
-        ONE,
-        None,
-        LINE,
-        "MissingInput",
-        1,
-        "",
-        "error: p needs s, which is missing\n",
-    ),
-    (
-        WIDE,
-        Some("one"),
-        LINE,
-        "MissingInput",
-        1,
-        "[1] p\n",
-        "error: all needs ./u, which is missing\n",
-    ),
-    (
-        ONE,
-        Some("one\nfail\n"),
-        LINE,
-        "CommandFailed",
-        1,
-        "[1] p\n",
-        "error: command p ended with status 1\n",
-    ),
-    (
-        CHAIN,
-        Some("fail"),
-        LINE,
-        "CommandFailed",
-        1,
-        "[1] first\n[2] second\n",
-        "error: command second ended with status 1\n",
-    ),
-    (
-        "client: {name: basic}\n",
-        None,
-        LINE,
-        "Manifest",
-        2,
-        "",
-        "error: manifest: not yet\n",
-    ),
-    (
-        "client: *name\n",
-        None,
-        LINE,
-        "Manifest",
-        2,
-        "",
-        "error: manifest: left out at byte 8: alias\n",
-    ),
-    (
-        ONE,
-        Some("one"),
-        "buildsystem build --serial -f m.llbuild all",
-        "Usage",
-        2,
-        "",
-        "error: usage: the words are refused\n",
-    ),
-    (
-        ONE,
-        Some("one"),
-        "buildsystem build --serial --no-db -f m.llbuild all t",
-        "Usage",
-        2,
-        "",
-        "error: usage: the words are refused\n",
-    ),
-    (
-        ONE,
-        Some("one"),
-        "buildsystem build --serial --no-db -f other/m.llbuild all",
-        "NoFile",
-        2,
-        "",
-        "error: no file other/m.llbuild\n",
-    ),
-    (
-        ONE,
-        Some("one"),
-        "buildsystem build --serial --no-db -f . all",
-        "NoFile",
-        2,
-        "",
-        "error: no file .\n",
-    ),
-    (
-        ONE,
-        Some("one"),
-        "buildsystem build --serial --no-db -f m.llbuild t",
-        "UnknownTarget",
-        2,
-        "",
-        "error: unknown target t\n",
-    ),
-    (
-        ONE,
-        None,
-        "buildsystem build --serial --no-db -f m.llbuild ",
-        "UnknownTarget",
-        2,
-        "",
-        "error: unknown target \n",
-    ),
-];
+// Runs that end with another end than `Ok`, one a line: the manifest, the text of `s` or `-` for no such file, the words,
+// and then the end, the status, and what is written on `out` and on `err`. A `;` stands for the end of a line.
+const ENDS: &str = "\
+one|-|buildsystem build --serial --no-db -f m.llbuild all|MissingInput|1||error: p needs s, which is missing;
+wide|one|buildsystem build --serial --no-db -f m.llbuild all|MissingInput|1|[1] p;|error: all needs ./u, which is missing;
+one|fail|buildsystem build --serial --no-db -f m.llbuild all|CommandFailed|1|[1] p;|error: command p ended with status 1;
+chain|fail|buildsystem build --serial --no-db -f m.llbuild all|CommandFailed|1|[1] first;[2] second;|error: command second ended with status 1;
+short|-|buildsystem build --serial --no-db -f m.llbuild all|Manifest|2||error: manifest: not yet;
+alias|-|buildsystem build --serial --no-db -f m.llbuild all|Manifest|2||error: manifest: left out at byte 8: alias;
+one|one|buildsystem build --serial -f m.llbuild all|Usage|2||error: usage: the words are refused;
+one|one|buildsystem build --serial --no-db -f m.llbuild all t|Usage|2||error: usage: the words are refused;
+one|one|buildsystem build --serial --no-db -f other/m.llbuild all|NoFile|2||error: no file other/m.llbuild;
+one|one|buildsystem build --serial --no-db -f . all|NoFile|2||error: no file .;
+one|one|buildsystem build --serial --no-db -f m.llbuild t|UnknownTarget|2||error: unknown target t;
+one|-|buildsystem build --serial --no-db -f m.llbuild |UnknownTarget|2||error: unknown target ;";
+
+// The manifest of a name in `ENDS`.
+fn manifest_named(name: &str) -> &'static str {
+    match name {
+        "one" => ONE,
+        "wide" => WIDE,
+        "chain" => CHAIN,
+        "short" => "client: {name: basic}\n",
+        _ => "client: *name\n",
+    }
+}
+
+// These bytes are the text, in which a `;` stands for the end of a line.
+fn wrote(rt: &impl Abort, bytes: &[u8], text: &str) {
+    assert_eq!(rt; bytes.len(), text.len(), "of {text:?}");
+    for (byte, shown) in bytes.iter().zip(text.bytes()) {
+        assert_eq!(rt;
+            *byte,
+            if shown == b';' { b'\n' } else { shown },
+            "of {text:?}"
+        );
+    }
+}
+
+// The next cell of a row.
+fn cell<'a>(row: &mut Split<'a, char>) -> &'a str {
+    row.next().unwrap_or("")
+}
+
+// A run ended as the cells of the row say, and this is what it wrote.
+fn is_as(
+    rt: &impl Abort,
+    finish: &Finish<NoFault>,
+    out: &VecSink,
+    err: &VecSink,
+    row: &mut Split<'_, char>,
+) {
+    assert_eq!(rt; end_name(&finish.report.end), cell(row));
+    assert_eq!(rt; cell(row).parse::<u8>().ok(), Some(finish.status));
+    wrote(rt, out.bytes(), cell(row));
+    wrote(rt, err.bytes(), cell(row));
+}
 
 #[test]
 fn failures_have_their_ends(rt: HostRuntime) -> Result<(), Fail> {
-    for (manifest, source, line, end, status, out, err) in ROWS {
-        let ran = run(rt.alloc(), &without_faults(manifest, source, line))?;
-        ended(&rt, &ran, end, status, err);
-        assert_eq!(rt; ran.out.bytes(), out.as_bytes());
+    for row in ENDS.lines() {
+        let mut row = row.split('|');
+        let manifest = manifest_named(cell(&mut row));
+        let source = Some(cell(&mut row)).filter(|text| *text != "-");
+        let ran = run(
+            rt.alloc(),
+            &without_faults(manifest, source, cell(&mut row)),
+        )?;
+        is_as(&rt, &ran.finish, &ran.out, &ran.err, &mut row);
     }
     Ok(())
 }
 
-// How many commands of `CHAIN` are started when the first call of the world fails, the second and so on. The manifest is
-// read, each command is begun, awaited and asked for its output, and `s` is asked for once, before the second.
-const STARTED: [usize; 11] = [0, 1, 1, 1, 1, 2, 2, 2, 3, 3, 3];
+// How many commands of `CHAIN` are started where one call fails: first each call of the world in turn, and then each of
+// `out`. The world reads the manifest, begins each command, ends it and is asked for its output, and is asked for `s` once,
+// before the second. There is one call of `out` for each line.
+const STARTED: [usize; 15] = [0, 1, 1, 1, 1, 2, 2, 2, 3, 3, 3, 0, 1, 2, 3];
 
 #[test]
-fn each_call_of_the_world_fails(rt: HostRuntime) -> Result<(), Fail> {
+fn each_call_fails(rt: HostRuntime) -> Result<(), Fail> {
     for (place, starts) in STARTED.iter().enumerate() {
-        let failing = Setting {
-            world_fails: &[place as u64 + 1],
-            ..without_faults(CHAIN, Some("one"), LINE)
-        };
+        // The world has no call after the eleventh, and no call has the number 0.
+        let of_world = [place as u64 + 1];
+        let of_out = [(place as u64).saturating_sub(10)];
+        let mut failing = without_faults(CHAIN, Some("one"), LINE);
+        failing.world_fails = &of_world;
+        failing.out_fails = &of_out;
         let ran = run(rt.alloc(), &failing)?;
-        ended(&rt, &ran, "DiskFault", 3, "error: the disk failed\n");
+        if place < 11 {
+            ended(&rt, &ran, "DiskFault", 3, "error: the disk failed\n");
+            assert_eq!(rt; ran.world.faults(), 1);
+        } else {
+            ended(&rt, &ran, "SinkFault", 3, "");
+            assert_eq!(rt; ran.out.faults(), 1);
+            assert_eq!(rt; ran.finish.report.heard.len(), *starts);
+        }
         stopped(&rt, &ran, *starts);
-        assert_eq!(rt; ran.world.faults(), 1);
         assert_eq!(rt; ran.world.begun(), 0);
-    }
-    Ok(())
-}
-
-// There is one call for each line.
-#[test]
-fn each_call_of_out_fails(rt: HostRuntime) -> Result<(), Fail> {
-    for starts in 0..4_usize {
-        let failing = Setting {
-            out_fails: &[starts as u64 + 1],
-            ..without_faults(CHAIN, Some("one"), LINE)
-        };
-        let ran = run(rt.alloc(), &failing)?;
-        ended(&rt, &ran, "SinkFault", 3, "");
-        stopped(&rt, &ran, starts);
-        assert_eq!(rt; ran.finish.report.heard.len(), starts);
-        assert_eq!(rt; ran.out.faults(), 1);
     }
     Ok(())
 }
@@ -411,44 +354,13 @@ const REAL_OUTPUT: &str = "llbuild_test.o";
 const REAL: &str =
     "client: {name: basic}\ntargets: {good: [llbuild_test.o], bad: [a], killed: [b], unknown: [c], missing: [d]}\ncommands:\n  touch: {tool: shell, outputs: [llbuild_test.o], args: [touch, llbuild_test.o]}\n  false: {tool: shell, outputs: [a], args: ['false']}\n  kill: {tool: shell, outputs: [b], args: [sh, -c, 'kill -9 $$']}\n  unknown: {tool: shell, outputs: [c], args: [llbuild_test_of_no_program]}\n  copy: {tool: shell, inputs: [llbuild_test_of_no_source], outputs: [d], args: [cp, s, d]}\n";
 
-// The words, the end, the status and what is written.
-const REAL_ROWS: [(&str, &str, u8, &str, &str); 5] = [
-    (
-        "buildsystem build --serial --no-db -f llbuild_test.llbuild good",
-        "Ok",
-        0,
-        "[1] touch\nok: 1 started\n",
-        "",
-    ),
-    (
-        "buildsystem build --serial --no-db -f llbuild_test.llbuild bad",
-        "CommandFailed",
-        1,
-        "[1] false\n",
-        "error: command false ended with status 1\n",
-    ),
-    (
-        "buildsystem build --serial --no-db -f llbuild_test.llbuild killed",
-        "CommandFailed",
-        1,
-        "[1] kill\n",
-        "error: command kill was killed\n",
-    ),
-    (
-        "buildsystem build --serial --no-db -f llbuild_test.llbuild unknown",
-        "DiskFault",
-        3,
-        "[1] unknown\n",
-        "error: the disk failed\n",
-    ),
-    (
-        "buildsystem build --serial --no-db -f llbuild_test.llbuild missing",
-        "MissingInput",
-        1,
-        "",
-        "error: copy needs llbuild_test_of_no_source, which is missing\n",
-    ),
-];
+// A target of `REAL` a line, the end of a run that builds it, the status, and what is written on `out` and on `err`.
+const REAL_ENDS: &str = "\
+good|Ok|0|[1] touch;ok: 1 started;|
+bad|CommandFailed|1|[1] false;|error: command false ended with status 1;
+killed|CommandFailed|1|[1] kill;|error: command kill was killed;
+unknown|DiskFault|3|[1] unknown;|error: the disk failed;
+missing|MissingInput|1||error: copy needs llbuild_test_of_no_source, which is missing;";
 
 // A run over real files, and what it wrote.
 #[derive(Drop)]
@@ -458,9 +370,13 @@ struct RealRan {
     err: VecSink,
 }
 
-fn run_real(rt: HostRuntime, line: &str) -> Result<RealRan, Fail> {
+fn run_real(rt: HostRuntime, target: &str) -> Result<RealRan, Fail> {
     let alloc = rt.alloc();
-    let words = words_of(alloc, line)?;
+    let mut words = words_of(
+        alloc,
+        "buildsystem build --serial --no-db -f llbuild_test.llbuild",
+    )?;
+    words.push(String::from_str(alloc, target)?)?;
     let mut out = sink(alloc, 1000, &[])?;
     let mut err = sink(alloc, 1000, &[])?;
     let mut world = RealWorld::new(rt);
@@ -477,12 +393,10 @@ fn run_real(rt: HostRuntime, line: &str) -> Result<RealRan, Fail> {
 #[test]
 fn real_commands_have_their_ends(rt: HostRuntime) -> Result<(), Fail> {
     fs::write(&rt, REAL_FILE, REAL.as_bytes())?;
-    for (line, end, status, out, err) in REAL_ROWS {
-        let ran = run_real(rt, line)?;
-        assert_eq!(rt; end_name(&ran.finish.report.end), end);
-        assert_eq!(rt; ran.finish.status, status);
-        assert_eq!(rt; ran.out.bytes(), out.as_bytes());
-        assert_eq!(rt; ran.err.bytes(), err.as_bytes());
+    for row in REAL_ENDS.lines() {
+        let mut row = row.split('|');
+        let ran = run_real(rt, cell(&mut row))?;
+        is_as(&rt, &ran.finish, &ran.out, &ran.err, &mut row);
     }
     fs::remove_file(&rt, REAL_OUTPUT)?;
     fs::remove_file(&rt, REAL_FILE)?;
