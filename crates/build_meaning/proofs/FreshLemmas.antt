@@ -1,8 +1,9 @@
 -- A path has one fresh content at most, and what is fresh stays so as more is seen.
-use Rattle.std.proofs.Common.{◌≡◌, ℕ, zero, suc, List, [], ◌∷◌, map, refl, sym, ◌∙◌, ap, inl, inr}
-use Rattle.std.specs.Prelude.{slice_get, Some}
+use Rattle.std.proofs.Common.{◌≡◌, ℕ, List, [], ◌∷◌, map, refl, sym, ◌∙◌, ap, inl, inr}
+use Rattle.std.specs.Prelude.{slice_get}
 use Rattle.file_info.specs.Content.{Content, ReadContent, FileVersion, content}
 use Rattle.file_info.specs.Lists.{In}
+use Rattle.file_info.proofs.Lists.{In-get}
 use Rattle.file_info.specs.declared.info.Info.{Info}
 use Rattle.file_info.specs.declared.node.NodeName.{NodeName}
 use Rattle.file_info.specs.declared.node.NodeName.TheVariants.{Path}
@@ -26,11 +27,6 @@ Fresh-more more (made c d o k ic names there fresh done at is) =
 -- outputs are determined where nothing is found
 abbrev pub IsDetermined : Does → Type 0
 IsDetermined does = (s : List ℕ) (d : List (NodeName × ReadContent)) (o q : List Content) → does s d [] o → does s d [] q → o ≡ q
-
-pub In-get : {A : Type 0} (xs : List A) (k : ℕ) (x : A) → slice_get xs k ≡ Some x → In x xs
-In-get [] k x e = cc e
-In-get (y ∷ ys) zero x e = inl (cc e)
-In-get (y ∷ ys) (suc k) x e = inr (In-get ys k x e)
 
 -- files of the same paths with the same contents are the same
 same_files : (d e : List (List ℕ × Content)) → map (λ (f : List ℕ × Content). Path f.0) d ≡ map (λ (f : List ℕ × Content). Path f.0) e

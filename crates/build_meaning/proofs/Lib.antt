@@ -1,4 +1,3 @@
-pub mod PlaceLemmas
 pub mod FreshLemmas
 pub mod OrderlyLemmas
 pub mod MakerLemmas

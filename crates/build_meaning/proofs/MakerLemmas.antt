@@ -1,12 +1,12 @@
 -- The maker of a node, by its place.
-use Rattle.std.proofs.Common.{◌≡◌, ◌≤◌, ℕ, zero, suc, Bool, true, false, cond, List, [], ◌∷◌, drop, position, refl, sym, ap, ◌∙◌, subst, inl, inr, arith}
+use Rattle.std.proofs.Common.{◌≡◌, ◌≤◌, ℕ, suc, Bool, true, false, cond, List, [], ◌∷◌, position, refl, sym, ap, ◌∙◌, subst, inl, inr}
 use Rattle.std.specs.Prelude.{slice_get, Option, Some, None}
 use Rattle.std.specs.Option.{option_map}
 use Rattle.file_info.specs.Content.{node_text}
 use Rattle.file_info.specs.Lists.{In}
 use Rattle.file_info.specs.declared.node.NodeName.{NodeName}
 use Rattle.file_info.specs.declared.node.NodeName.TheVariants.{Path}
-use Rattle.build_meaning.proofs.PlaceLemmas.{get-map}
+use Rattle.file_info.proofs.Lists.{In-drop-get, In-get, any-in, any-some, get-map}
 use Rattle.manifest_reader.specs.declared.command.Command.{Command}
 use Rattle.manifest_reader.specs.declared.command.Input.{Input}
 use Rattle.manifest_reader.specs.Places.{is_node, makes, maker_of}
@@ -14,8 +14,7 @@ use Rattle.manifest_reader.specs.Manifest.{ManifestLists}
 use Rattle.manifest_reader.specs.FileManifest.{IsManifest}
 use Rattle.manifest_reader.proofs.SameLemmas.{same_node}
 use Rattle.manifest_reader.proofs.StepLemmas.{position_cons}
-use Rattle.build_meaning.proofs.FreshLemmas.{In-get}
-use Rattle.build_meaning.proofs.OrderlyLemmas.{any_in, in_any, node_itself, one_place, same_maker, path_made, read_files, outputs_once, orderly}
+use Rattle.build_meaning.proofs.OrderlyLemmas.{node_itself, one_place, same_maker, path_made, read_files, outputs_once, orderly}
 
 -- an item and its place
 abbrev Placed : {X : Type 0} → (X → Bool) → List X → ℕ → Type 0
@@ -53,26 +52,20 @@ found {X} p (y ∷ xs) x (inr i) e = go (p y) refl (found p xs x i e)
 pub maker_makes : (cs : List Command) (n : NodeName) (k : ℕ) → maker_of cs n ≡ Some k → (c : Command) × (slice_get cs k ≡ Some c) × In n c.outputs
 maker_makes cs n k e =
     let (c, at, makes_it) = placed (makes n) cs k e in
-    let (o, i, same) = in_any (is_node n) c.outputs makes_it in
+    let (o, i, same) = any-some (is_node n) c.outputs makes_it in
     (c, at, subst (λ z. In z c.outputs) (sym (same_node n o same)) i)
 
 -- a command is the maker of each of its outputs
 pub maker_at : (m : ManifestLists) → IsManifest m → (n : NodeName) (k : ℕ) (c : Command) → slice_get m.commands k ≡ Some c → In n c.outputs → maker_of m.commands n ≡ Some k
 maker_at m h n k c at o =
     let i : In c m.commands = In-get m.commands k c at in
-    let (j, is) = found (makes n) m.commands c i (any_in (is_node n) c.outputs n o (node_itself n)) in
+    let (j, is) = found (makes n) m.commands c i (any-in (is_node n) c.outputs n o (node_itself n)) in
     let (e, at', o') = maker_makes m.commands n j is in
     let same : e ≡ c = same_maker m.commands e c n (outputs_once m h) (In-get m.commands j e at') i o' o in
     let name = λ (z : Command). z.name in
     let there : slice_get m.commands j ≡ Some c = at' ∙ ap Some same in
     let places : j ≡ k = one_place _ j k c.name (orderly m h).names (get-map name m.commands j c there) (get-map name m.commands k c at) in
     is ∙ ap Some places
-
-in_drop : {A : Type 0} (xs : List A) (k j : ℕ) (x : A) → k ≤ j → slice_get xs j ≡ Some x → In x (drop k xs)
-in_drop xs zero j x h e = In-get xs j x e
-in_drop [] (suc k) j x h e = cc e
-in_drop (y ∷ xs) (suc k) zero x h e = absurd (omega arith)
-in_drop (y ∷ xs) (suc k) (suc j) x h e = in_drop xs k j x (omega arith) e
 
 -- the maker of an input stands before the command
 pub maker_before : (m : ManifestLists) → IsManifest m → (k j : ℕ) (c : Command) (i : Input) → slice_get m.commands k ≡ Some c → In i c.inputs
@@ -81,4 +74,4 @@ maker_before m h k j c i at r is late =
     let (e, at', o) = maker_makes m.commands i.node j is in
     let file : i.node ≡ Path (node_text i.node) = read_files m h c i (In-get m.commands k c at) r in
     let output = path_made e (node_text i.node) (subst (λ z. In z e.outputs) file o) in
-    (orderly m h).inputs k c i at r (record { by = e; named = in_drop m.commands k j e late at'; output = output })
+    (orderly m h).inputs k c i at r (record { by = e; named = In-drop-get m.commands k j e at' late; output = output })

@@ -6,7 +6,7 @@ use Rattle.std.proofs.lemmas.Bool.{cases_lt}
 use Rattle.std.proofs.lemmas.List.{length-replicate}
 use Rattle.std.proofs.lemmas.Option.{slice_get_within}
 use Rattle.file_info.specs.Lists.{In}
-use Rattle.build_meaning.proofs.PlaceLemmas.{In-index}
+use Rattle.file_info.proofs.Lists.{In-get, In-index}
 use Rattle.manifest_reader.specs.declared.command.Command.{Command}
 use Rattle.manifest_reader.specs.declared.command.Input.{Input}
 use Rattle.manifest_reader.specs.Manifest.{ManifestLists}
@@ -14,7 +14,6 @@ use Rattle.manifest_reader.specs.Places.{maker_of}
 use Rattle.manifest_reader.specs.FileManifest.{IsManifest}
 use Rattle.build_meaning.specs.Marks.{with_mark, with_makers}
 use Rattle.build_meaning.specs.Need.{IsNeeded, wants, needs, AreMarks}
-use Rattle.build_meaning.proofs.FreshLemmas.{In-get}
 use Rattle.build_meaning.proofs.MakerLemmas.{maker_makes, maker_at, maker_before}
 
 -- the place is marked

@@ -1,5 +1,5 @@
 -- The rules over the commands of a manifest, as facts.
-use Rattle.std.proofs.Common.{◌≡◌, ℕ, zero, suc, Bool, true, false, not, ◌&&◌, ◌||◌, List, [], ◌∷◌, ◌++◌, drop, refl, sym, ap, ◌∙◌, subst, inl, inr, rules}
+use Rattle.std.proofs.Common.{◌≡◌, ℕ, zero, suc, Bool, true, false, not, ◌&&◌, List, [], ◌∷◌, ◌++◌, drop, refl, sym, ap, ◌∙◌, subst, inl, inr, rules}
 use Rattle.std.specs.Prelude.{slice_get, Some, bytes_eq}
 use Rattle.std.specs.List.{list_any, list_all}
 use Rattle.std.proofs.lemmas.Slice.Eq.{bytes_eq-Decides}
@@ -8,7 +8,7 @@ use Rattle.file_info.specs.Lists.{In, IsDistinct}
 use Rattle.file_info.specs.declared.node.NodeName.{NodeName}
 use Rattle.file_info.specs.declared.node.NodeName.TheVariants.{Path, Virtual}
 use Rattle.outside.specs.OrderForm.{paths_of}
-use Rattle.build_meaning.proofs.PlaceLemmas.{In-left, In-right}
+use Rattle.file_info.proofs.Lists.{In-get, In-left, In-right, any-in}
 use Rattle.manifest_reader.specs.declared.command.Command.{Command}
 use Rattle.manifest_reader.specs.declared.command.Input.{Input}
 use Rattle.manifest_reader.specs.Places.{is_node, makes}
@@ -18,38 +18,14 @@ use Rattle.manifest_reader.specs.FileManifest.{IsManifest}
 use Rattle.build_meaning.specs.Fresh.{IsMade}
 use Rattle.build_meaning.specs.Unique.{HasOneMaker}
 use Rattle.build_meaning.specs.Orderly.{AreOrderly}
-use Rattle.build_meaning.proofs.FreshLemmas.{In-get}
 
 both : (a b : Bool) → (a && b) ≡ true → (a ≡ true) × (b ≡ true)
 both true b e = (refl, e)
 both false b e = absurd (search (rules))
 
-first_of_two : (a b : Bool) → a ≡ true → (a || b) ≡ true
-first_of_two true b e = refl
-first_of_two false b e = absurd (search (rules))
-
-second_of_two : (a b : Bool) → b ≡ true → (a || b) ≡ true
-second_of_two true b e = refl
-second_of_two false b e = e
-
 not_both : (b : Bool) → not b ≡ true → b ≡ true → ⊥
 not_both true n e = search (rules)
 not_both false n e = search (rules)
-
--- an item that passes
-pub any_in : {A : Type 0} (p : A → Bool) (xs : List A) (x : A) → In x xs → p x ≡ true → list_any p xs ≡ true
-any_in p [] x i e = absurd i
-any_in p (y ∷ xs) x (inl same) e = first_of_two (p y) (list_any p xs) (ap p (sym same) ∙ e)
-any_in p (y ∷ xs) x (inr i) e = second_of_two (p y) (list_any p xs) (any_in p xs x i e)
-
--- the item that passes
-pub in_any : {A : Type 0} (p : A → Bool) (xs : List A) → list_any p xs ≡ true → (x : A) × In x xs × (p x ≡ true)
-in_any p [] e = absurd (search (rules))
-in_any {A} p (y ∷ xs) e = go (p y) refl e (in_any p xs)
-  where
-    go : (b : Bool) → p y ≡ b → (b || list_any p xs) ≡ true → (list_any p xs ≡ true → (x : A) × In x xs × (p x ≡ true)) → (x : A) × In x (y ∷ xs) × (p x ≡ true)
-    go true same f more = (y, inl refl, same)
-    go false same f more = let (x, i, passes) = more f in (x, inr i, passes)
 
 all_in : {A : Type 0} (p : A → Bool) (xs : List A) (x : A) → In x xs → list_all p xs ≡ true → p x ≡ true
 all_in p [] x i e = absurd i
@@ -65,7 +41,7 @@ distinct_of : {A : Type 0} (same : A → A → Bool) → ((x : A) → same x x �
 distinct_of same alike [] h = tt
 distinct_of same alike (x ∷ xs) h =
     let parts = both (not (list_any (same x) xs)) (differ same xs) h in
-    (λ i. not_both (list_any (same x) xs) parts.0 (any_in (same x) xs x i (alike x)), distinct_of same alike xs parts.1)
+    (λ i. not_both (list_any (same x) xs) parts.0 (any-in (same x) xs x i (alike x)), distinct_of same alike xs parts.1)
 
 distinct_left : {A : Type 0} (xs ys : List A) → IsDistinct (xs ++ ys) → IsDistinct xs
 distinct_left [] ys d = tt
@@ -148,7 +124,7 @@ ReadFiles cs = (c : Command) (i : Input) → In c cs → In i c.inputs → i.nod
 made_node : (cs : List Command) (n : NodeName) → n ≡ Path (node_text n) → IsMade cs (node_text n) → is_made cs n ≡ true
 made_node cs n file made =
     let o : In n made.by.outputs = subst (λ z. In z made.by.outputs) (sym file) (made_path made.by (node_text n) made.output) in
-    any_in (makes n) cs made.by made.named (any_in (is_node n) made.by.outputs n o (node_itself n))
+    any-in (makes n) cs made.by made.named (any-in (is_node n) made.by.outputs n o (node_itself n))
 
 in_order : (cs : List Command) → ReadFiles cs → are_in_order cs ≡ true → (k : ℕ) (c : Command) (i : Input) → slice_get cs k ≡ Some c → In i c.inputs
     → IsMade (drop k cs) (node_text i.node) → ⊥

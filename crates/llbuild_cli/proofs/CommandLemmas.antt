@@ -1,6 +1,8 @@
 -- One command that ran, from its parts.
 use Rattle.std.proofs.Common.{◌≡◌, ℕ, List, [], ◌∷◌, ◌++◌, map, refl, sym, ◌∙◌, ap, inl, inr, subst, arith}
 use Rattle.std.specs.Prelude.{◌⊎◌, slice_get, Some}
+use Rattle.std.proofs.lemmas.Option.{slice_get_within}
+use Rattle.file_info.proofs.Lists.{In-either, In-get, In-index, In-left, In-one, In-right, get-map, map-same}
 use Rattle.file_info.specs.Content.{Content, FileVersion, content, node_text, read_contents}
 use Rattle.file_info.specs.Lists.{In, IsDistinct}
 use Rattle.file_info.specs.declared.info.Info.{Info}
@@ -15,7 +17,6 @@ use Rattle.outside.specs.declared.order.Ended.{Ended}
 use Rattle.outside.specs.declared.order.Exit.{Exit}
 use Rattle.outside.specs.declared.order.Order.{Order}
 use Rattle.manifest_reader.specs.declared.command.Command.{Command}
-use Rattle.build_meaning.proofs.PlaceLemmas.{get-less, In-get, In-index, In-left, In-right, In-either, In-one, get-map}
 use Rattle.build_meaning.specs.Commands.{meaning_of}
 use Rattle.build_meaning.specs.Fresh.{Does}
 use Rattle.build_report.specs.declared.report.Heard.{Heard}
@@ -32,7 +33,6 @@ use Rattle.llbuild_cli.specs.Sight.{GivesInfo, WasHeard, sights_of, sources_of}
 use Rattle.llbuild_cli.proofs.ProgressLemmas.{keeps_both, looked_came, looked_on, stayed_at}
 use Rattle.llbuild_cli.proofs.InputLemmas.{input_of}
 use Rattle.llbuild_cli.proofs.JournalLemmas.{get_some, heard_shown}
-use Rattle.llbuild_cli.proofs.OrderLemmas.{map_same}
 
 pub knows_same : (a b : Journal) → b.stats ≡ a.stats → b.heard ≡ a.heard → (p : List ℕ) (i : Info) → Knows b p i → Knows a p i
 knows_same a b stats heard p i k = elim k [
@@ -69,7 +69,9 @@ reads_stand g b c reads stands read t r p i i_in node reading =
 pub did_on : (does : Does) (m : List FileVersion) (before after : List ℕ → Form → Info) (c : Command) (reads : List Read) → ((p : List ℕ) (f : Form) → after p f ≡ before p f)
     → DidLaw does m before c reads → DidLaw does m after c reads
 did_on does m before after c reads same did =
-    let outs : contents_made m after c ≡ contents_made m before c = map_same (λ (p : List ℕ). content m p (after p Follow)) (λ (p : List ℕ). content m p (before p Follow)) (paths_of c.outputs) (λ p. ap (content m p) (same p Follow)) in
+    let outs : contents_made m after c ≡ contents_made m before c =
+    map-same (λ (p : List ℕ). content m p (after p Follow)) (λ (p : List ℕ). content m p (before p Follow)) (paths_of c.outputs)
+    (λ p i. ap (content m p) (same p Follow)) in
     subst (λ (o : List Content). does (signature_of (meaning_of c)) (read_contents m reads) [] o) (sym outs) did
 
 -- what was seen after the inputs were looked at is no output of the command
@@ -102,7 +104,7 @@ ran_one {does} {g} {e} {v} {old} {middle} {noting} {new} c reads order law sound
       outputs = λ p o.
           (let in_order : In p order.outputs = subst (λ (ps : List (List ℕ)). In p ps) (sym outputs) o in
           let (k, at_k) = In-index p order.outputs in_order in
-          let less = get-less order.outputs k p at_k in
+          let less = slice_get_within order.outputs k p at_k in
           let (info, at_info) = get_some done.infos k (omega (arith, done.count, less)) in
           (info, (k, (at_k, at_info))));
       gives = λ p i gives. (

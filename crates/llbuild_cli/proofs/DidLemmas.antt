@@ -1,6 +1,7 @@
 -- What holds of a run by its plan, from what holds of its build.
 use Rattle.std.proofs.Common.{◌≡◌, ◌∙◌, ◌++◌, ◌∷◌, [], ℕ, List, length, refl, sym, ap, subst, inl, inr, arith}
 use Rattle.std.specs.Prelude.{Result, Ok, Err}
+use Rattle.file_info.proofs.Lists.{In-either, In-map-back, In-one}
 use Rattle.file_info.specs.Content.{FileVersion}
 use Rattle.file_info.specs.Lists.{In}
 use Rattle.file_info.specs.declared.info.Info.{Info}
@@ -8,7 +9,6 @@ use Rattle.outside.specs.View.{DiskView, SinkView, Tells, Grew, Stayed}
 use Rattle.outside.specs.declared.order.Exit.{Exit}
 use Rattle.outside.specs.declared.world.NoFault.{NoFault}
 use Rattle.build_meaning.specs.Fresh.{IsMade}
-use Rattle.build_meaning.proofs.PlaceLemmas.{In-either, In-one, In-map-back}
 use Rattle.build_report.specs.declared.report.End.{End}
 use Rattle.build_report.specs.declared.report.End.TheVariants as ends
 use Rattle.build_report.specs.declared.report.Heard.{Heard}

@@ -1,5 +1,6 @@
 -- What is read of inputs, as what was seen grows.
 use Rattle.std.proofs.Common.{◌≡◌, ◌≤◌, arith, ℕ, List, [], ◌∷◌, ◌++◌, map, refl, sym, ◌∙◌, ap, inl, inr, subst}
+use Rattle.file_info.proofs.Lists.{In-map-back}
 use Rattle.file_info.specs.Content.{Content, FileVersion, content, Absent, node_text, ReadContent, One, read_contents}
 use Rattle.file_info.specs.Lists.{In}
 use Rattle.file_info.specs.declared.info.Info.{Info}
@@ -19,7 +20,6 @@ use Rattle.build_meaning.specs.Commands.{key_of, key_in}
 use Rattle.build_meaning.specs.Fresh.{nodes_read, as_read}
 use Rattle.llbuild_cli.specs.declared.stop.Stop.{Stop}
 use Rattle.llbuild_cli.specs.declared.stop.Stop.TheVariants.{CommandFailed, MissingInput, DiskFault, SinkFault, NoMemory}
-use Rattle.build_meaning.proofs.PlaceLemmas.{In-map-back}
 use Rattle.llbuild_cli.specs.Input.{SeenAs, IsRead, AreRead}
 use Rattle.llbuild_cli.specs.Stop.{IsDiskStop, IsReadStop, IsInputStop}
 

@@ -7,12 +7,14 @@ use Rattle.std.specs.Prelude.{◌⊎◌, slice_get, Option, Some, None, Result, 
 use Rattle.std.proofs.Common.{Bor}
 use Rattle.std.specs.Option.{option_copied}
 use Rattle.std.specs.Prelude.{IfSome, IfNone}
+use Rattle.std.proofs.lemmas.Option.{slice_get_within}
+use Rattle.std.proofs.lemmas.List.{map-append}
+use Rattle.file_info.proofs.Lists.{In-either, In-index, In-left, In-one, In-right, distinct-more}
 use Rattle.file_info.specs.Reserved.{Reserved}
 use Rattle.file_info.specs.Lists.{In, IsDistinct}
 use Rattle.file_info.specs.declared.info.Info.{Info}
 use Rattle.outside.specs.declared.order.Exit.{Exit}
 use Rattle.outside.specs.declared.order.Order.{Order}
-use Rattle.build_meaning.proofs.PlaceLemmas.{In-left, In-right, In-either, In-one, In-index, get-less, map-append}
 use Rattle.build_report.specs.declared.report.Heard.{Heard}
 use Rattle.build_report.specs.declared.report.Outcome.TheVariants.{Failed, Done}
 use Rattle.build_report.specs.declared.report.StatSeen.{StatSeen}
@@ -47,14 +49,6 @@ pub get_some : {A : Type 0} (xs : List A) (k : ℕ) → k < length xs → (x : A
 get_some [] k h = absurd (omega arith)
 get_some (x ∷ xs) zero h = (x, refl)
 get_some (x ∷ xs) (suc k) h = get_some xs k (omega arith)
-
--- one more at the end is distinct where it was not there
-pub distinct_more : {A : Type 0} (xs : List A) (x : A) → IsDistinct xs → (In x xs → ⊥) → IsDistinct (xs ++ x ∷ [])
-distinct_more [] x d n = ((λ i. i), tt)
-distinct_more (y ∷ ys) x d n = (
-  (λ i. elim (In-either y ys (x ∷ []) i) [ inl k ↦ d.0 k | inr k ↦ n (inl (sym (In-one k))) ]),
-  distinct_more ys x d.1 (λ i. n (inr i)),
-)
 
 -- a source was seen with some information
 pub source_seen : (stats : List StatSeen) (p : List ℕ) → In p (sources_of stats) → (i : Info) × In (p, i) (sights_of stats)
@@ -119,7 +113,7 @@ index_source stats heard path info old new was noted unknown = record {
         ap new first ∙ noted.here ∙ ap Some (sym second))
   ];
   sources = subst (λ (ps : List (List ℕ)). IsDistinct ps) (sym (map-append (λ (x : StatSeen). x.path) stats (seen ∷ [])))
-      (distinct_more (sources_of stats) path was.sources (λ i. (let r = source_seen stats path i in unknown r.0 (inl r.1))));
+      (distinct-more (sources_of stats) path was.sources (λ i. (let r = source_seen stats path i in unknown r.0 (inl r.1))));
 }
   where
     seen : StatSeen
@@ -142,7 +136,7 @@ index_done stats heard order infos old new was count unknown noted = record {
   shown = λ p i e. elim (in_or_not p order.outputs) [
     | inl o ↦
         (let (k, at_k) = In-index p order.outputs o in
-        let less = get-less order.outputs k p at_k in
+        let less = slice_get_within order.outputs k p at_k in
         let (info, at_info) = get_some infos k (omega (arith, count, less)) in
         let here = noted.here k p info at_k at_info in
         let is : info ≡ i = cc (here, e) in

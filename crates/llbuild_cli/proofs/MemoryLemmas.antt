@@ -1,6 +1,7 @@
 -- What is said of runs, of files in memory without a premise.
 use Rattle.std.proofs.Common.{◌≡◌, ◌++◌, [], ℕ, List, length, refl, sym, ◌∙◌, ap, subst, inl, inr}
 use Rattle.std.specs.Prelude.{Option, Some, None, Result, Ok, Err}
+use Rattle.file_info.proofs.Lists.{In-map, In-map-back}
 use Rattle.file_info.specs.Content.{Content, Absent, FileVersion, content, node_text}
 use Rattle.file_info.specs.Lists.{In}
 use Rattle.file_info.specs.declared.info.Info.{Info}
@@ -28,7 +29,6 @@ use Rattle.manifest_reader.specs.Places.{target_named}
 use Rattle.manifest_reader.proofs.ManifestLemmas.{loaded-served}
 use Rattle.build_meaning.specs.Fresh.{Does, Sights, IsMade, Fresh, source, made}
 use Rattle.build_meaning.specs.Unique.{HasOneMaker, SawOnce}
-use Rattle.build_meaning.proofs.PlaceLemmas.{In-map, In-map-back}
 use Rattle.build_meaning.proofs.OrderlyLemmas.{orderly}
 use Rattle.build_meaning.proofs.FreshLemmas.{IsDetermined, Fresh-unique}
 use Rattle.llbuild_cli.specs.declared.refusal.Refusal.{Refusal}

@@ -1,5 +1,6 @@
 -- What a build met of inputs.
 use Rattle.std.proofs.Common.{◌≡◌, ◌⊎◌, ◌+◌, ℕ, List, [], ◌∷◌, ◌++◌, length, refl, sym, ◌∙◌, ap, inl, inr, subst, arith, length-append}
+use Rattle.file_info.proofs.Lists.{In-either, In-left, In-one, In-right}
 use Rattle.file_info.specs.Lists.{In}
 use Rattle.file_info.specs.declared.info.Info.{Info}
 use Rattle.file_info.specs.declared.info.Info.TheVariants.{Missing}
@@ -12,7 +13,6 @@ use Rattle.manifest_reader.specs.declared.command.TargetEntry.{TargetEntry}
 use Rattle.outside.specs.declared.order.Ended.{Ended}
 use Rattle.outside.specs.declared.order.Exit.{Exit}
 use Rattle.outside.specs.declared.order.Order.{Order}
-use Rattle.build_meaning.proofs.PlaceLemmas.{In-left, In-right, In-either, In-one}
 use Rattle.build_report.specs.declared.report.Heard.{Heard}
 use Rattle.build_report.specs.declared.report.Outcome.{Outcome}
 use Rattle.build_report.specs.declared.report.Outcome.TheVariants.{Failed}

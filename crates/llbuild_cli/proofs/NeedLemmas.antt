@@ -1,6 +1,8 @@
 -- What the rules of a manifest and its marks say of a command at its place.
-use Rattle.std.proofs.Common.{◌≡◌, ◌⊎◌, ◌<◌, ◌≤◌, ℕ, zero, suc, ◌+◌, Bool, true, List, [], ◌∷◌, map, length, drop, sym, ◌∙◌, ap, inl, inr, subst, arith, suc-add, zero-add}
+use Rattle.std.proofs.Common.{◌≡◌, ◌⊎◌, ◌<◌, ◌≤◌, ℕ, zero, suc, ◌+◌, Bool, true, List, map, length, drop, sym, ◌∙◌, ap, inl, inr, subst, arith}
 use Rattle.std.specs.Prelude.{slice_get, Some}
+use Rattle.std.proofs.lemmas.Option.{slice_get_within}
+use Rattle.file_info.proofs.Lists.{In-drop, In-drop-get, In-get, In-index, get-drop, get-map}
 use Rattle.file_info.specs.Content.{node_text}
 use Rattle.file_info.specs.Lists.{In}
 use Rattle.file_info.specs.declared.info.Info.{Info}
@@ -12,18 +14,11 @@ use Rattle.outside.specs.OrderForm.{paths_of}
 use Rattle.build_meaning.specs.Fresh.{Does, IsMade}
 use Rattle.build_meaning.specs.Need.{IsNeeded, wants, needs, AreMarks}
 use Rattle.build_meaning.specs.Orderly.{AreOrderly}
-use Rattle.build_meaning.proofs.PlaceLemmas.{get-less, In-index, In-get, get-map}
 use Rattle.build_meaning.proofs.OrderlyLemmas.{made_path, one_place}
 use Rattle.llbuild_cli.specs.CommandRun.{IsInput, IsOutput}
 use Rattle.llbuild_cli.specs.Stands.{Stands}
-use Rattle.llbuild_cli.proofs.StandsLemmas.{In-drop, In-later}
 use Rattle.outside.specs.View.{DiskView}
 use Rattle.llbuild_cli.specs.Journal.{Journal, Knows, IsUnknown}
-
-pub get-drop : {A : Type 0} (xs : List A) (n j : ℕ) (x : A) → slice_get (drop n xs) j ≡ Some x → slice_get xs (n + j) ≡ Some x
-get-drop xs zero j x e = rw zero-add e
-get-drop [] (suc n) j x e = cc e
-get-drop (y ∷ ys) (suc n) j x e = rw suc-add (get-drop ys n j x e)
 
 pub less_or_not : (k n : ℕ) → (k < n) ⊎ (n ≤ k)
 less_or_not k zero = inr (omega arith)
@@ -61,7 +56,8 @@ inputs_settled {commands} {marks} {place} wanted orderly are old c at_place mark
     elim (less_or_not j place) [
       | inl l ↦ old.done j h.by p l marked_j at_j h.output
       | inr l ↦ absurd (orderly.inputs place c i at_place is.1.0
-          (subst (λ (q : List ℕ). IsMade (drop place commands) q) is.1.1 (record { by = h.by; named = In-later commands place j h.by at_j l; output = h.output })))
+          (subst (λ (q : List ℕ). IsMade (drop place commands) q) is.1.1
+          (record { by = h.by; named = In-drop-get commands place j h.by at_j l; output = h.output })))
     ]
 
 -- what is made of the nodes of the target was made
@@ -76,10 +72,10 @@ nodes_settled {commands} {marks} wanted are old files p is h =
     let (j, at_j) = In-index h.by commands h.named in
     let output : In i.node h.by.outputs = subst (λ (n : _). In n h.by.outputs) (sym node) (made_path h.by p h.output) in
     let maker : IsNeeded commands wanted h.by = wants i h.named is.1.0 output in
-    old.done j h.by p (get-less commands j h.by at_j) ((are.each j h.by at_j).1 maker) at_j h.output
+    old.done j h.by p (slice_get_within commands j h.by at_j) ((are.each j h.by at_j).1 maker) at_j h.output
 
 -- the outputs of a command were not seen before it ran
 pub outputs_unseen : {does : Does} {commands : List Command} {marks : List Bool} {place : ℕ} {w : DiskView} {a : Journal}
     → Stands does commands marks place w a → (c : Command) → slice_get commands place ≡ Some c → (p : List ℕ) → IsOutput c p → IsUnknown a p
 outputs_unseen {commands} {place} {a} old c at_place p o i k =
-    old.later p i k (record { by = c; named = In-later commands place place c at_place (omega arith); output = o })
+    old.later p i k (record { by = c; named = In-drop-get commands place place c at_place (omega arith); output = o })

@@ -2,6 +2,7 @@
 use Rattle.std.proofs.Common.{◌≡◌, ◌⊎◌, ◌∙◌, ℕ, List, sym, ap, refl, subst, inl, inr}
 use Rattle.std.specs.Prelude.{Option, Some, None, Err, IsErrOf, slice_get}
 use Rattle.std.specs.Option.{option_and_then}
+use Rattle.file_info.proofs.Lists.{In-get}
 use Rattle.file_info.specs.Lists.{In}
 use Rattle.outside.specs.View.{DiskView, DiskFailed, Keeps}
 use Rattle.outside.specs.declared.disk.FileBytes.{FileBytes}
@@ -14,7 +15,6 @@ use Rattle.manifest_reader.specs.declared.error.LoadError.TheVariants as load
 use Rattle.manifest_reader.specs.Load.{loaded}
 use Rattle.manifest_reader.specs.Manifest.{ManifestLists}
 use Rattle.manifest_reader.specs.Places.{target_named, target_place}
-use Rattle.build_meaning.proofs.PlaceLemmas.{In-get}
 use Rattle.llbuild_cli.specs.declared.refusal.Refusal.{Refusal}
 use Rattle.llbuild_cli.specs.declared.refusal.Refusal.TheVariants as refusals
 use Rattle.llbuild_cli.specs.declared.words.Job.{Job}

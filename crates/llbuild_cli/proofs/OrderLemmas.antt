@@ -1,6 +1,7 @@
 -- What one order does.
 use Rattle.std.proofs.Common.{◌≡◌, ℕ, List, [], ◌∷◌, ◌++◌, map, refl, sym, ◌∙◌, ap, inl, inr, subst}
 use Rattle.std.specs.Prelude.{false, true}
+use Rattle.file_info.proofs.Lists.{In-one, map-same}
 use Rattle.file_info.specs.Content.{Content, FileVersion, content, node_text, read_contents}
 use Rattle.file_info.specs.Lists.{In}
 use Rattle.file_info.specs.declared.info.Info.{Info}
@@ -25,7 +26,6 @@ use Rattle.outside.specs.Meaning.{NodeKey}
 use Rattle.outside.specs.Outcome.{IsWritten, StandsAs, Unchanged, IsFound, found_contents, contents_at, output_form, form_of}
 use Rattle.build_meaning.specs.Commands.{key_in, key_of, meaning_of}
 use Rattle.build_meaning.specs.Fresh.{Does}
-use Rattle.build_meaning.proofs.PlaceLemmas.{In-one}
 use Rattle.llbuild_cli.specs.CommandRun.{IsInput, IsOutput, IsOrderFor, ReadsStand, DidLaw, contents_made}
 
 -- the one that was taken out is the one that was there
@@ -52,10 +52,6 @@ spawns c act served is = subst (λ (d : Command). IsActOf (meaning_of d).tool ac
 followed : (order : Order) (p : List ℕ) (words : List (List ℕ)) → order.act ≡ Spawn words [] true false → order.links ≡ [] → output_form order p ≡ Follow
 followed order p words act links = rw (act, links) refl
 
-pub map_same : {A B : Type 0} (f g : A → B) (xs : List A) → ((x : A) → f x ≡ g x) → map f xs ≡ map g xs
-map_same f g [] h = refl
-map_same f g (x ∷ xs) h = (let here = h x in let rest = map_same f g xs h in cc (here, rest))
-
 -- what the law gives for the order, it gives for the command
 pub did_step : (does : Does) (m : List FileVersion) (after : List ℕ → Form → Info) (c : Command) (ticket : ℕ) (reads : List Read) (order : Order)
     → IsServed c → IsOrderFor c ticket reads order
@@ -68,7 +64,8 @@ did_step does m after c ticket reads order served is law unchanged =
     let did = law (record { meaning = meaning_of c; is = is.is }) unchanged [] found in
     let form = λ (p : List ℕ). followed order p served.words (spawns c order.act served is.is.act) is.is.links in
     let outs : contents_at m after order ≡ contents_made m after c =
-    map_same (λ (p : List ℕ). content m p (after p (output_form order p))) (λ (p : List ℕ). content m p (after p Follow)) order.outputs (λ p. ap (λ (f : Form). content m p (after p f)) (form p))
+    map-same (λ (p : List ℕ). content m p (after p (output_form order p))) (λ (p : List ℕ). content m p (after p Follow)) order.outputs
+    (λ p i. ap (λ (f : Form). content m p (after p f)) (form p))
     ∙ ap (map (λ (p : List ℕ). content m p (after p Follow))) is.outputs_are in
     subst (λ (s : List ℕ). does s (read_contents m reads) [] (contents_made m after c)) is.is.signature
     (subst (λ (rs : List Read). does order.signature (read_contents m rs) [] (contents_made m after c)) is.reads_are

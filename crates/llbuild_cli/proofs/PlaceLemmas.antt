@@ -1,6 +1,7 @@
 -- A command that ran leaves what stands, one place further.
 use Rattle.std.proofs.Common.{◌≡◌, ℕ, ◌+◌, Bool, true, false, List, [], drop, sym, ◌∙◌, ap, inl, inr, subst, arith}
 use Rattle.std.specs.Prelude.{slice_get, Some}
+use Rattle.file_info.proofs.Lists.{In-drop-get, In-get, In-index, get-map}
 use Rattle.file_info.specs.Content.{Content, FileVersion, content}
 use Rattle.file_info.specs.Lists.{In}
 use Rattle.file_info.specs.declared.info.Info.{Info}
@@ -11,7 +12,6 @@ use Rattle.outside.specs.OrderForm.{paths_of}
 use Rattle.outside.specs.Meaning.{signature_of}
 use Rattle.build_meaning.specs.Commands.{meaning_of}
 use Rattle.build_meaning.specs.Fresh.{Does, Sights, IsMade, Fresh, made}
-use Rattle.build_meaning.proofs.PlaceLemmas.{In-index, In-get, get-map}
 use Rattle.build_meaning.proofs.FreshLemmas.{Fresh-more}
 use Rattle.build_report.specs.declared.report.StatSeen.{StatSeen}
 use Rattle.llbuild_cli.specs.Move.{Moved}
@@ -21,12 +21,12 @@ use Rattle.llbuild_cli.proofs.InputLemmas.{files_read, read_files, read_nodes, f
 use Rattle.outside.specs.View.{DiskView, Told, Tells}
 use Rattle.llbuild_cli.specs.Journal.{Journal, Knows}
 use Rattle.llbuild_cli.specs.Sight.{sights_of}
-use Rattle.llbuild_cli.proofs.StandsLemmas.{In-later, made_more, stands_looked}
+use Rattle.llbuild_cli.proofs.StandsLemmas.{made_more, stands_looked}
 use Rattle.llbuild_cli.proofs.JournalLemmas.{split_last}
 use Rattle.llbuild_cli.proofs.CommandLemmas.{ran_knows, ran_kept, ran_gives}
 
 pub made_here : (commands : List Command) (place : ℕ) (c : Command) (p : List ℕ) → slice_get commands place ≡ Some c → IsOutput c p → IsMade (drop place commands) p
-made_here commands place c p at_place o = record { by = c; named = In-later commands place place c at_place (omega arith); output = o }
+made_here commands place c p at_place o = record { by = c; named = In-drop-get commands place place c at_place (omega arith); output = o }
 
 -- an output of the command that ran is fresh
 output_fresh : {does : Does} {m : List FileVersion} {commands : List Command} {sights : Sights} {p : List ℕ} {x : Content} (seen : List ℕ → Info → Type 0) (at : List ℕ → Form → Info) (c : Command) (reads : List _)

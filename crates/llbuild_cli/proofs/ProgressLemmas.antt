@@ -2,13 +2,14 @@
 use Rattle.std.proofs.Common.{◌≡◌, ℕ, List, [], ◌∷◌, ◌++◌, map, refl, sym, ◌∙◌, ap, inl, inr, arith, subst}
 use Rattle.std.specs.Result.{IsErrAnd}
 use Rattle.std.specs.Prelude.{Result, Ok, Err, IfErr, OnErr, ◌⊎◌}
+use Rattle.std.proofs.lemmas.List.{map-append}
+use Rattle.file_info.proofs.Lists.{map-same}
 use Rattle.file_info.specs.Lists.{In}
 use Rattle.file_info.specs.declared.info.Info.{Info}
 use Rattle.file_info.specs.declared.info.Form.{Form}
 use Rattle.file_info.specs.declared.info.Form.TheVariants.{Follow}
 use Rattle.outside.specs.View.{DiskView, Told, Keeps, Stayed}
 use Rattle.outside.specs.declared.world.NoFault.{NoFault}
-use Rattle.build_meaning.proofs.PlaceLemmas.{map-append}
 use Rattle.build_report.specs.declared.report.End.{End}
 use Rattle.build_report.specs.declared.report.Heard.{Heard}
 use Rattle.llbuild_cli.specs.Journal.{Journal, Knows, IsUnknown}
@@ -122,14 +123,11 @@ pub on_err : {T E : Type 0} (r : Result T E) (A : Type 0) → A → OnErr r A
 on_err (Ok x) A a = tt
 on_err (Err e) A a = a
 
-map_agrees : {A B : Type 0} (f g : A → B) (xs : List A) → ((x : A) → g x ≡ f x) → map f xs ≡ map g xs
-map_agrees f g [] h = refl
-map_agrees f g (x ∷ xs) h = (let here = h x in let rest = map_agrees f g xs h in cc (here, rest))
-
 -- one information more
 pub infos_more : {A B : Type 0} (f g : A → B) (xs : List A) (ys : List B) (x : A) (y : B) → ys ≡ map f xs → ((z : A) → g z ≡ f z) → y ≡ g x → ys ++ y ∷ [] ≡ map g (xs ++ x ∷ [])
 infos_more f g xs ys x y all same one =
-    ap (λ (zs : List _). zs ++ y ∷ []) (all ∙ map_agrees f g xs same) ∙ ap (λ z. map g xs ++ z ∷ []) one ∙ sym (map-append g xs (x ∷ []))
+    ap (λ (zs : List _). zs ++ y ∷ []) (all ∙ map-same f g xs (λ z i. sym (same z)))
+    ∙ ap (λ z. map g xs ++ z ∷ []) one ∙ sym (map-append g xs (x ∷ []))
 
 -- an error of which this is known
 pub known_err : {T : Type 0} (r : Result T (End NoFault)) (x : End NoFault) → IsErrAnd r (λ (e : End NoFault). e ≡ x) → r ≡ Err x

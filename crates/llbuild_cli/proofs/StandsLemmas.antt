@@ -1,12 +1,12 @@
 -- What stands between two commands goes on from command to command.
-use Rattle.std.proofs.Common.{◌≡◌, ◌≤◌, ℕ, zero, suc, ◌+◌, Bool, List, [], ◌∷◌, ◌++◌, drop, refl, sym, ◌∙◌, ap, inl, inr, subst, arith, add-one}
-use Rattle.std.specs.Prelude.{slice_get, Some}
+use Rattle.std.proofs.Common.{◌≡◌, ℕ, ◌+◌, Bool, List, [], ◌∷◌, ◌++◌, drop, refl, sym, ◌∙◌, ap, inl, inr, subst}
+use Rattle.std.proofs.lemmas.List.{map-append}
+use Rattle.file_info.proofs.Lists.{In-drop, In-drop-more, In-either, In-left, In-one}
 use Rattle.file_info.specs.Lists.{In}
 use Rattle.file_info.specs.declared.info.Info.{Info}
 use Rattle.file_info.specs.declared.info.Form.TheVariants.{Follow}
 use Rattle.outside.specs.View.{DiskView, Told}
 use Rattle.manifest_reader.specs.declared.command.Command.{Command}
-use Rattle.build_meaning.proofs.PlaceLemmas.{In-left, In-either, In-one, In-get, map-append}
 use Rattle.build_meaning.proofs.FreshLemmas.{Fresh-more}
 use Rattle.build_meaning.specs.Fresh.{Does, Sights, IsMade, source}
 use Rattle.build_report.specs.declared.report.StatSeen.{StatSeen}
@@ -17,29 +17,8 @@ use Rattle.llbuild_cli.specs.Sight.{sights_of}
 use Rattle.llbuild_cli.specs.Stands.{Stands}
 use Rattle.llbuild_cli.proofs.ProgressLemmas.{looked_kept, looked_came}
 
-pub In-drop : {A : Type 0} (x : A) (n : ℕ) (xs : List A) → In x (drop n xs) → In x xs
-In-drop x zero xs i = i
-In-drop x (suc n) [] i = i
-In-drop x (suc n) (y ∷ ys) i = inr (In-drop x n ys i)
-
 pub made_of_drop : (n : ℕ) (commands : List Command) (p : List ℕ) → IsMade (drop n commands) p → IsMade commands p
 made_of_drop n commands p h = record { by = h.by; named = In-drop h.by n commands h.named; output = h.output }
-
--- one that is looked up at a place is dropped with those before it, or is not
-pub In-later : {A : Type 0} (xs : List A) (n k : ℕ) (x : A) → slice_get xs k ≡ Some x → n ≤ k → In x (drop n xs)
-In-later xs zero k x e h = In-get xs k x e
-In-later [] (suc n) k x e h = cc e
-In-later (y ∷ ys) (suc n) zero x e h = absurd (omega arith)
-In-later (y ∷ ys) (suc n) (suc k) x e h = In-later ys n k x e (omega arith)
-
-drop_suc : {A : Type 0} (x : A) (n : ℕ) (xs : List A) → In x (drop (suc n) xs) → In x (drop n xs)
-drop_suc x zero [] i = i
-drop_suc x zero (y ∷ ys) i = inr i
-drop_suc x (suc n) [] i = i
-drop_suc x (suc n) (y ∷ ys) i = drop_suc x n ys i
-
-pub In-drop-more : {A : Type 0} (x : A) (n : ℕ) (xs : List A) → In x (drop (n + 1) xs) → In x (drop n xs)
-In-drop-more x n xs i = drop_suc x n xs (subst (λ (k : ℕ). In x (drop k xs)) (add-one n) i)
 
 pub made_more : (n : ℕ) (commands : List Command) (p : List ℕ) → IsMade (drop (n + 1) commands) p → IsMade (drop n commands) p
 made_more n commands p h = record { by = h.by; named = In-drop-more h.by n commands h.named; output = h.output }

@@ -1,12 +1,12 @@
 -- The starts of the marked commands.
-use Rattle.std.proofs.Common.{◌≡◌, ◌<◌, ◌≤◌, ℕ, zero, suc, ◌+◌, Bool, true, false, List, [], ◌∷◌, ◌++◌, map, length, take, refl, sym, ◌∙◌, ap, inl, inr, arith, add-one}
+use Rattle.std.proofs.Common.{◌≡◌, ◌≤◌, ℕ, zero, suc, ◌+◌, Bool, true, false, List, [], ◌∷◌, ◌++◌, map, length, take, refl, sym, ◌∙◌, ap, inl, inr, arith, add-one}
 use Rattle.std.specs.Prelude.{slice_get, Some}
+use Rattle.file_info.proofs.Lists.{In-get, In-index, get-map, get-take}
 use Rattle.file_info.specs.Lists.{In, IsDistinct}
 use Rattle.manifest_reader.specs.declared.command.Command.{Command}
 use Rattle.manifest_reader.specs.declared.command.Input.{Input}
 use Rattle.build_meaning.specs.Need.{IsNeeded, wants, needs, AreMarks}
 use Rattle.build_meaning.specs.Orderly.{AreOrderly}
-use Rattle.build_meaning.proofs.PlaceLemmas.{In-index, In-get, get-map}
 use Rattle.build_meaning.proofs.OrderlyLemmas.{one_place}
 use Rattle.build_report.specs.declared.report.Start.{Start}
 use Rattle.llbuild_cli.specs.Start.{start_of, starts_of, AreStarts, AllStarted}
@@ -92,14 +92,6 @@ unmarked_suc (d ∷ cs) (false ∷ ms) (suc k) m = unmarked_suc cs ms k m
 
 pub starts_skip : (cs : List Command) (ms : List Bool) (k : ℕ) → slice_get ms k ≡ Some false → starts_of (take (k + 1) cs) ms ≡ starts_of (take k cs) ms
 starts_skip cs ms k m = rw add-one (unmarked_suc cs ms k m)
-
--- what stands in a beginning stands in the whole, before its end
-pub get-take : {A : Type 0} (xs : List A) (n k : ℕ) (x : A) → slice_get (take n xs) k ≡ Some x → (slice_get xs k ≡ Some x) × (k < n)
-get-take [] zero k x e = cc e
-get-take [] (suc n) k x e = cc e
-get-take (y ∷ ys) zero k x e = cc e
-get-take (y ∷ ys) (suc n) zero x e = (e, omega arith)
-get-take (y ∷ ys) (suc n) (suc k) x e = (let r = get-take ys n k x e in (r.0, (let l = r.1 in omega arith)))
 
 In-names-take : (n : ℕ) (cs : List Command) (x : List ℕ) → In x (names_of (take n cs)) → In x (names_of cs)
 In-names-take zero [] x i = i

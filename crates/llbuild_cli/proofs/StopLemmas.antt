@@ -1,6 +1,8 @@
 -- How a build stops at a command.
 use Rattle.std.proofs.Common.{◌≡◌, ◌⊎◌, ◌≤◌, ◌+◌, ℕ, zero, suc, List, [], ◌∷◌, ◌++◌, length, take, drop, refl, sym, ◌∙◌, ap, inl, inr, subst, arith, append_assoc, append-nil, zero-add}
 use Rattle.std.proofs.lemmas.List.{length-map}
+use Rattle.std.proofs.lemmas.List.{map-append}
+use Rattle.file_info.proofs.Lists.{In-either, In-left, In-one}
 use Rattle.file_info.specs.Lists.{In}
 use Rattle.file_info.specs.declared.info.Info.{Info}
 use Rattle.manifest_reader.specs.declared.command.Command.{Command}
@@ -15,7 +17,6 @@ use Rattle.build_report.specs.declared.report.Outcome.TheVariants.{Failed}
 use Rattle.llbuild_cli.specs.OrderEnd.{IsSettleStop}
 use Rattle.build_meaning.specs.Need.{IsNeeded, AreMarks}
 use Rattle.build_meaning.specs.Orderly.{AreOrderly}
-use Rattle.build_meaning.proofs.PlaceLemmas.{In-left, In-either, In-one, map-append}
 use Rattle.build_report.specs.declared.report.Heard.{Heard}
 use Rattle.build_report.specs.declared.report.Start.{Start}
 use Rattle.llbuild_cli.specs.declared.stop.Stop.{Stop}

@@ -2,10 +2,11 @@
 use Rattle.std.proofs.Common.{◌≡◌, ◌⊎◌, ◌≤◌, ◌<◌, ◌+◌, ℕ, zero, suc, List, [], ◌∷◌, ◌++◌, map, length, refl, sym, ◌∙◌, ap, inl, inr, arith, length-append, append-nil}
 use Rattle.std.proofs.lemmas.List.{length-map}
 use Rattle.std.specs.Prelude.{slice_get, Some}
+use Rattle.std.proofs.lemmas.Option.{slice_get_within}
+use Rattle.file_info.proofs.Lists.{In-get, In-index, get-append, get-map, get-map-back}
 use Rattle.file_info.specs.Lists.{IsDistinct}
 use Rattle.outside.specs.declared.world.NoFault.{NoFault}
 use Rattle.manifest_reader.specs.declared.command.Command.{Command}
-use Rattle.build_meaning.proofs.PlaceLemmas.{In-index, In-get, get-less, get-map}
 use Rattle.build_report.specs.declared.report.Heard.{Heard}
 use Rattle.build_report.specs.declared.report.Report.{Report}
 use Rattle.build_report.specs.declared.report.Start.{Start}
@@ -15,18 +16,6 @@ use Rattle.llbuild_cli.proofs.JournalLemmas.{get_some}
 use Rattle.llbuild_cli.proofs.NeedLemmas.{less_or_not}
 use Rattle.llbuild_cli.proofs.StartLemmas.{start_names}
 use Rattle.llbuild_cli.proofs.StopLemmas.{even_names}
-
--- what stands in a list at a place stands there in a longer one
-get-append : {A : Type 0} (xs ys : List A) (k : ℕ) (x : A) → slice_get xs k ≡ Some x → slice_get (xs ++ ys) k ≡ Some x
-get-append [] ys k x e = cc e
-get-append (z ∷ zs) ys zero x e = e
-get-append (z ∷ zs) ys (suc k) x e = get-append zs ys k x e
-
--- what is looked up in the images is the image of what stands there
-get-map-back : {A B : Type 0} (f : A → B) (xs : List A) (k : ℕ) (y : B) → slice_get (map f xs) k ≡ Some y → (x : A) × ((slice_get xs k ≡ Some x) × (f x ≡ y))
-get-map-back f [] k y e = cc e
-get-map-back f (x ∷ xs) zero y e = (x, (refl, cc e))
-get-map-back f (x ∷ xs) (suc k) y e = get-map-back f xs k y e
 
 -- where each element stands at one place none stands twice
 distinct_by : {A : Type 0} (xs : List A) → ((k j : ℕ) (x : A) → slice_get xs k ≡ Some x → slice_get xs j ≡ Some x → k ≡ j) → IsDistinct xs
@@ -62,7 +51,7 @@ orders_of commands report step orders = record {
 
 pub each_ended : (commands : List Command) (report : Report NoFault) → AreOrders commands report.heard → AllEnded report.starts report.heard → EachEnded report
 each_ended commands report orders ended k s at_k =
-    let less = get-less report.starts k s at_k in
+    let less = slice_get_within report.starts k s at_k in
     let even = even_names report.starts report.heard ended in
     let (h, at_h) = get_some report.heard k (omega arith) in
     (h, (In-get report.heard k h at_h, orders.tickets k h at_h))
@@ -81,7 +70,7 @@ rest_none commands report orders each = go (less_or_not (length report.heard) (l
         let (s, at_s) = get_some report.starts (length report.heard) more in
         let (h, both) = each (length report.heard) s at_s in
         let (j, at_j) = In-index h report.heard both.0 in
-        let less = get-less report.heard j h at_j in
+        let less = slice_get_within report.heard j h at_j in
         let ticket : j + 1 ≡ length report.heard + 1 = sym (orders.tickets j h at_j) ∙ both.1 in
         absurd (omega arith)
 

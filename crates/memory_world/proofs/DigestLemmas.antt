@@ -1,5 +1,5 @@
 -- Writes of digests.
-use Rattle.std.proofs.Common.{◌≡◌, ◌+◌, ◌<◌, ℕ, zero, suc, Bool, true, false, List, [], ◌∷◌, ◌++◌, length, take, get_or, refl, inl, inr, ap, sym, ◌∙◌, subst, append_assoc, append-nil, arith}
+use Rattle.std.proofs.Common.{◌≡◌, ◌+◌, ◌<◌, ℕ, suc, Bool, true, false, List, [], ◌∷◌, ◌++◌, length, take, get_or, refl, inl, inr, ap, sym, ◌∙◌, subst, append_assoc, append-nil, arith}
 use Rattle.std.specs.Prelude.{◌||◌}
 use Rattle.std.specs.List.{list_any}
 use Rattle.std.proofs.lemmas.List.{take_more, length-take-le}
@@ -11,7 +11,7 @@ use Rattle.memory_world.specs.declared.write.Write.{Write}
 use Rattle.memory_world.specs.Log.{put, last_of, info_of}
 use Rattle.memory_world.specs.Toy.{digest_of}
 use Rattle.memory_world.specs.Performance.{is_directory, put_digests, WentOn}
-use Rattle.memory_world.proofs.PlaceInLemmas.{In-either, In-one}
+use Rattle.file_info.proofs.Lists.{In-either, In-one, In-take}
 
 pub or-false : (a b : Bool) → (a || b) ≡ false → (a ≡ false) × (b ≡ false)
 or-false true b e = cc e
@@ -46,13 +46,6 @@ digests-step ws now new m ps k p text h is before digest after =
     ∙ ap (λ (n : ℕ). put (put_digests ws m 0 (take k ps)) p (Bytes (digest_of m n))) (omega (arith, count))
     ∙ sym (digests-more ws m 0 (take k ps) p) ∙ ap (put_digests ws m 0) (sym more)
 
-In-take : (ps : List (List ℕ)) (k : ℕ) (p : List ℕ) → In p (take k ps) → In p ps
-In-take [] zero p i = i
-In-take [] (suc k) p i = i
-In-take (q ∷ ps) zero p i = absurd i
-In-take (q ∷ ps) (suc k) p (inl e) = inl e
-In-take (q ∷ ps) (suc k) p (inr i) = inr (In-take ps k p i)
-
 pub went-put : (ps : List (List ℕ)) (old ws : List Write) (p : List ℕ) (x : What) → In p ps → is_directory (info_of (last_of old p) Link) ≡ false
     → WentOn ps old ws → WentOn ps old (put ws p x)
 went-put ps old ws p x i free w =
@@ -80,4 +73,5 @@ went-nowhere ps old = record { more = []; is = sym (append-nil old); at = λ w i
 pub went_some : (ps : List (List ℕ)) (k : ℕ) (old now : List Write) (m : List ℕ) → list_any (λ p. is_directory (info_of (last_of old p) Link)) ps ≡ false
     → now ≡ put_digests old m 0 (take k ps) → WentOn ps old now
 went_some ps k old now m none e =
-    subst (WentOn ps old) (sym e) (went-digests ps old old m 0 (take k ps) (In-take ps k) (any-none (λ p. is_directory (info_of (last_of old p) Link)) ps none) (went-nowhere ps old))
+    subst (WentOn ps old) (sym e) (went-digests ps old old m 0 (take k ps) (λ p i. In-take p k ps i)
+    (any-none (λ p. is_directory (info_of (last_of old p) Link)) ps none) (went-nowhere ps old))

@@ -3,7 +3,6 @@ use Rattle.std.proofs.Common.{◌≡◌, ◌⊎◌, ℕ, Bool, true, false, List
 use Rattle.std.specs.Prelude.{◌||◌, ◌&&◌, not, if◌then◌else◌}
 use Rattle.std.specs.List.{list_any}
 use Rattle.file_info.specs.Content.{Content, Absent, Folder, LinkTo, Text, FileVersion, content, node_text}
-use Rattle.file_info.specs.Lists.{In}
 use Rattle.file_info.specs.declared.info.Info.{Info}
 use Rattle.file_info.specs.declared.info.Info.TheVariants as infos
 use Rattle.file_info.specs.declared.info.Form.{Form}
@@ -21,6 +20,7 @@ use Rattle.memory_world.specs.Memory.{Memory, view_of}
 use Rattle.memory_world.specs.Toy.{content_fails, has_fail, reading_fails}
 use Rattle.memory_world.specs.Performance.{reading_at, is_read, is_directory, is_blocked, has_failing, is_served, exit_of}
 use Rattle.memory_world.specs.Exit.{exit_on, IsToyExit, HasBlocked, HasFailing}
+use Rattle.file_info.proofs.Lists.{any-some}
 use Rattle.memory_world.proofs.LogLemmas.{standing-told}
 
 reading-same : (h k : List ℕ → Form → Content) → ((p : List ℕ) (f : Form) → h p f ≡ k p f) → (links : List (List ℕ)) (path : List ℕ) (reading : Reading)
@@ -45,15 +45,6 @@ exit-told ws m order t =
 -- the exit on the writes is the one that is told
 pub toy-exit : (was : Memory) (ws : List Write) (order : Order) (exit : Exit) → ws ≡ was.writes → exit ≡ exit_of ws order → IsToyExit (view_of was) order exit
 toy-exit was ws order exit same e m t = e ∙ ap (λ (z : List Write). exit_of z order) same ∙ sym (exit-told was.writes m order t)
-
-any-some : {A : Type 0} (test : A → Bool) (xs : List A) → list_any test xs ≡ true → (x : A) × In x xs × (test x ≡ true)
-any-some test [] e = cc e
-any-some {A} test (x ∷ xs) e = go (test x) refl e (any-some test xs)
-  where
-    go : (b : Bool) → test x ≡ b → (b || list_any test xs) ≡ true → (list_any test xs ≡ true → (y : A) × In y xs × (test y ≡ true))
-        → (y : A) × In y (x ∷ xs) × (test y ≡ true)
-    go true h f more = (x, inl refl, h)
-    go false h f more = let (y, i, g) = more f in (y, inr i, g)
 
 or-either : (a b : Bool) → (a || b) ≡ true → (a ≡ true) ⊎ (b ≡ true)
 or-either true b e = inl refl

@@ -9,7 +9,7 @@ use Rattle.memory_world.specs.declared.write.What.{What}
 use Rattle.memory_world.specs.declared.write.What.TheVariants.{Gone, Dir, Bytes, LinkText}
 use Rattle.memory_world.specs.declared.write.Write.{Write}
 use Rattle.memory_world.specs.Log.{later, last_of, info_of, what_info, content_of, what_content, standing, AgreesAt, with_known, known_of, Tells}
-use Rattle.memory_world.proofs.PlaceInLemmas.{In-left}
+use Rattle.file_info.proofs.Lists.{In-left}
 
 pub same_list-refl : (xs : List ℕ) → same_list xs xs ≡ true
 same_list-refl [] = refl

@@ -1,5 +1,5 @@
 -- The index beside the log.
-use Rattle.std.proofs.Common.{◌≡◌, ◌+◌, ℕ, zero, suc, Bool, true, false, cond, List, [], ◌∷◌, ◌++◌, length, refl, ap, sym, ◌∙◌, subst, arith}
+use Rattle.std.proofs.Common.{◌≡◌, ◌+◌, ℕ, Bool, true, false, cond, List, [], ◌∷◌, ◌++◌, length, refl, ap, sym, ◌∙◌, subst, arith}
 use Rattle.std.specs.Prelude.{Option, Some, None, Result, Ok, Err, OnOk, slice_get}
 use Rattle.std.specs.Str.{bytes_eq}
 use Rattle.std.specs.Prelude.{String}
@@ -16,6 +16,7 @@ use Rattle.std.proofs.lemmas.Slice.Eq.{bytes_eq-Decides}
 use Rattle.memory_world.specs.declared.write.What.{What}
 use Rattle.memory_world.specs.declared.write.Write.{Write}
 use Rattle.memory_world.specs.Log.{last_of, put, IsPlaceOf, IsIndexed}
+use Rattle.file_info.proofs.Lists.{get-append, get-last}
 use Rattle.memory_world.proofs.LogLemmas.{last-nil, last-put, last-put_apart}
 use Rattle.memory_world.proofs.NumberLemmas.{numbered-append}
 
@@ -29,18 +30,9 @@ some-at ws p o k h e = let found = subst (IsPlaceOf ws p) e h in found.1 ∙ sym
 pub none-yet : (place_at : List ℕ → Option ℕ) → ((p : List ℕ) → place_at p ≡ None) → IsIndexed [] place_at
 none-yet place_at h = record { numbered = refl; placed = λ p. subst (IsPlaceOf [] p) (sym (h p)) (last-nil p) }
 
-get-first : (ws more : List Write) (k : ℕ) (w : Write) → slice_get ws k ≡ Some w → slice_get (ws ++ more) k ≡ Some w
-get-first [] more k w e = cc e
-get-first (v ∷ ws) more zero w e = e
-get-first (v ∷ ws) more (suc k) w e = get-first ws more k w e
-
-get-last : (ws : List Write) (w : Write) → slice_get (ws ++ w ∷ []) (length ws) ≡ Some w
-get-last [] w = refl
-get-last (v ∷ ws) w = get-last ws w
-
 kept : (ws : List Write) (w : Write) (p : List ℕ) → (w.path ≡ p → ⊥) → (o : Option ℕ) → IsPlaceOf ws p o → IsPlaceOf (ws ++ w ∷ []) p o
 kept ws w p h None i = last-put_apart ws w p h ∙ i
-kept ws w p h (Some k) i = (i.0, get-first ws (w ∷ []) k i.0 i.1, last-put_apart ws w p h ∙ i.2)
+kept ws w p h (Some k) i = (i.0, get-append ws (w ∷ []) k i.0 i.1, last-put_apart ws w p h ∙ i.2)
 
 placed-put : (ws : List Write) (w : Write) (p q : List ℕ) (old : Option ℕ) → w.path ≡ p → IsPlaceOf ws q old
     → (b : Bool) → bytes_eq p q ≡ b → IsPlaceOf (ws ++ w ∷ []) q (cond b (Some (length ws)) old)

@@ -23,13 +23,9 @@ use Rattle.outside.specs.Outcome.{Unchanged, StandsAs, form_of, output_form, con
 use Rattle.memory_world.specs.Log.{put, last_of, info_of, info_at as at, content_of, standing, Tells}
 use Rattle.memory_world.specs.Toy.{ToyDoes, message_of, digest_of, digests_from, fails, reading_fails}
 use Rattle.memory_world.specs.Performance.{entry_at, reading_at, read_at, reads_at, is_read, is_directory, is_blocked, has_failing, is_served, succeeds, put_digests, performed, exit_of}
+use Rattle.file_info.proofs.Lists.{any-in, map-same}
 use Rattle.memory_world.proofs.LogLemmas.{same_list-refl, last-put, last-put_apart, standing-told}
 use Rattle.memory_world.proofs.DigestLemmas.{or-false, any-none}
-
-map-same : {A B : Type 0} (f h : A → B) (xs : List A) → ((x : A) → In x xs → f x ≡ h x) → map f xs ≡ map h xs
-map-same f h [] e = refl
-map-same f h (x ∷ xs) e =
-    ap (λ (y : _). y ∷ map f xs) (e x (inl refl)) ∙ ap (λ (ys : List _). h x ∷ ys) (map-same f h xs (λ y i. e y (inr i)))
 
 -- other paths stay as they are
 digests-apart : (ws : List Write) (m : List ℕ) (k : ℕ) (ps : List (List ℕ)) (p : List ℕ) → (In p ps → ⊥) → last_of (put_digests ws m k ps) p ≡ last_of ws p
@@ -94,17 +90,9 @@ not-output ws order s r i p e o =
     let unread = any-none (λ (z : Read). is_read (node_text z.node) z.reading p) order.reads (or-false (is_directory (info_of (last_of ws p) Link)) _ blocked).1 r i in
     cc (e, unread)
 
-or-left : (a b : Bool) → a ≡ true → (a || b) ≡ true
-or-left a b e = rw e refl
-
 or-right : (a b : Bool) → b ≡ true → (a || b) ≡ true
 or-right true b e = refl
 or-right false b e = e
-
-any-in : (test : TreeEntry → Bool) (xs : List TreeEntry) (x : TreeEntry) → In x xs → test x ≡ true → list_any test xs ≡ true
-any-in test [] x i e = absurd i
-any-in test (y ∷ xs) x (inl same) e = or-left (test y) (list_any test xs) (ap test (sym same) ∙ e)
-any-in test (y ∷ xs) x (inr i) e = or-right (test y) (list_any test xs) (any-in test xs x i e)
 
 -- the contents that were read are those that stood before
 reading-stood : (old new : List Write) (m : List FileVersion) (links : List (List ℕ)) (path : List ℕ) (reading : Reading) → Tells new m

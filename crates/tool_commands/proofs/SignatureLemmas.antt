@@ -1,9 +1,9 @@
--- How a list is spelled item by item, and a tool part by part.
-use Rattle.std.proofs.Common.{◌≡◌, ℕ, ◌+◌, ◌<◌, ◌≤◌, Bool, List, [], ◌∷◌, ◌++◌, map, take, length, get_or, Option, Some, None, refl, sym, ◌∙◌, ap, append_assoc, append-nil}
-use Rattle.std.proofs.lemmas.List.{take_more, take_all, length-map}
+-- How a tool is spelled part by part, and what one variable or one node more adds to an order.
+use Rattle.std.proofs.Common.{◌≡◌, ℕ, ◌+◌, ◌<◌, Bool, List, [], ◌∷◌, ◌++◌, map, take, length, get_or, Option, Some, None, refl, sym, ◌∙◌, ap, append_assoc, append-nil}
+use Rattle.std.proofs.lemmas.List.{take_more, map-append}
 use Rattle.file_info.specs.declared.node.NodeName.{NodeName}
 use Rattle.file_info.specs.declared.node.NodeName.TheVariants.{Path, Virtual}
-use Rattle.outside.specs.Spelled.{count_bytes, flag_bytes, text_bytes, items_bytes, list_bytes, node_bytes}
+use Rattle.spelling.specs.Spelling.{flag_bytes, text_bytes, list_bytes, node_bytes}
 use Rattle.outside.specs.Meaning.{ToolMeaning, group_of, key_bytes, tool_bytes, signature_of}
 use Rattle.outside.specs.OrderForm.{paths_of}
 use Rattle.outside.specs.declared.order.EnvText.{EnvText}
@@ -15,46 +15,12 @@ use Rattle.manifest_reader.specs.declared.command.Tool.TheVariants as tools
 use Rattle.build_meaning.specs.Commands.{key_of, variable_of, shell_of, tool_in, meaning_of}
 use Rattle.tool_commands.specs.Program.{definition_bytes}
 
-pub items-append : {A : Type 0} (f : A → List ℕ) (xs ys : List A) → items_bytes f (xs ++ ys) ≡ items_bytes f xs ++ items_bytes f ys
-items-append f [] ys = refl
-items-append f (x ∷ xs) ys = ap (λ z. f x ++ z) (items-append f xs ys) ∙ sym (append_assoc (f x) (items_bytes f xs) (items_bytes f ys))
-
-pub items-map : {A B : Type 0} (f : B → List ℕ) (g : A → B) (xs : List A) → items_bytes f (map g xs) ≡ items_bytes (λ x. f (g x)) xs
-items-map f g [] = refl
-items-map f g (x ∷ xs) = ap (λ z. f (g x) ++ z) (items-map f g xs)
-
-pub items-more : {A : Type 0} (f : A → List ℕ) (xs : List A) (i : ℕ) (x : A) → i < length xs → x ≡ get_or xs i x
-    → items_bytes f (take (i + 1) xs) ≡ items_bytes f (take i xs) ++ f x
-items-more f xs i x h e =
-    ap (items_bytes f) (take_more xs i x h) ∙ items-append f (take i xs) (get_or xs i x ∷ [])
-    ∙ ap (λ z. items_bytes f (take i xs) ++ z) (append-nil (f (get_or xs i x)) ∙ ap f (sym e))
-
--- one item more was pushed
-pub pushed_more : {A : Type 0} (f : A → List ℕ) (xs : List A) (i : ℕ) (x : A) (first before after : List ℕ) → i < length xs → x ≡ get_or xs i x
-    → before ≡ first ++ items_bytes f (take i xs) → after ≡ before ++ f x → after ≡ first ++ items_bytes f (take (i + 1) xs)
-pushed_more f xs i x first before after h e b a =
-    a ∙ ap (λ z. z ++ f x) b ∙ append_assoc first (items_bytes f (take i xs)) (f x) ∙ ap (λ z. first ++ z) (sym (items-more f xs i x h e))
-
 -- two texts were pushed
 pub pushed_both : (n t name text before between after : List ℕ) → n ≡ name → t ≡ text → between ≡ before ++ text_bytes n → after ≡ between ++ text_bytes t
     → after ≡ before ++ (text_bytes name ++ text_bytes text)
 pushed_both n t name text before between after e f b a =
     a ∙ ap (λ z. z ++ text_bytes t) b ∙ append_assoc before (text_bytes n) (text_bytes t) ∙ ap (λ z. before ++ (text_bytes z ++ text_bytes t)) e
     ∙ ap (λ z. before ++ (text_bytes name ++ text_bytes z)) f
-
--- the count was pushed, and all items
-pub pushed_all : {A B : Type 0} (f : B → List ℕ) (g : A → B) (xs ys : List A) (n i : ℕ) (first counted after : List ℕ) → ys ≡ xs → n ≡ length xs
-    → length ys ≤ i → counted ≡ first ++ count_bytes n → after ≡ counted ++ items_bytes (λ x. f (g x)) (take i ys) → after ≡ first ++ list_bytes f (map g xs)
-pushed_all f g xs ys n i first counted after same many end c a =
-    let whole : take i ys ≡ xs = take_all i ys end ∙ same in
-    let items : items_bytes (λ x. f (g x)) (take i ys) ≡ items_bytes f (map g xs) = ap (items_bytes (λ x. f (g x))) whole ∙ sym (items-map f g xs) in
-    let count : count_bytes n ≡ count_bytes (length (map g xs)) = ap count_bytes (many ∙ sym (length-map xs g)) in
-    a ∙ ap (λ z. counted ++ z) items ∙ ap (λ z. z ++ items_bytes f (map g xs)) (c ∙ ap (λ z. first ++ z) count)
-    ∙ append_assoc first (count_bytes (length (map g xs))) (items_bytes f (map g xs))
-
-map-append : {A B : Type 0} (g : A → B) (xs ys : List A) → map g (xs ++ ys) ≡ map g xs ++ map g ys
-map-append g [] ys = refl
-map-append g (x ∷ xs) ys = ap (λ z. g x ∷ z) (map-append g xs ys)
 
 -- one variable more was taken
 pub variables_more : (xs : List EnvPair) (i : ℕ) (x : EnvPair) (name text : List ℕ) (before after : List EnvText) → i < length xs → x ≡ get_or xs i x

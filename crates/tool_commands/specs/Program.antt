@@ -1,6 +1,6 @@
 -- How the program of a shell command is spelled and started.
 use Rattle.std.specs.Prelude.{ℕ, List, [], ◌∷◌, ◌++◌, map, Option, Some, None, codes}
-use Rattle.outside.specs.Spelled.{text_bytes, list_bytes}
+use Rattle.spelling.specs.Spelling.{text_bytes, list_bytes}
 use Rattle.outside.specs.Meaning.{env_bytes}
 use Rattle.manifest_reader.specs.declared.command.Args.{Args}
 use Rattle.manifest_reader.specs.declared.command.Args.TheVariants.{Absent, Words, Line}

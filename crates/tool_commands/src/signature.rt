@@ -2,7 +2,7 @@
 ghost use Rattle.std.specs.Prelude.{◌≡◌, ◌<◌, ◌^◌, ◌∷◌, [], ◌++◌, length, map, false, IfOk, OnOk};
 ghost use Rattle.file_info.specs.Content.{node_text};
 ghost use Rattle.file_info.specs.Lists.{IsDistinct};
-ghost use Rattle.outside.specs.Spelled.{count_bytes, flag_bytes, text_bytes, list_bytes, node_bytes};
+ghost use Rattle.spelling.specs.Spelling.{text_bytes, list_bytes, node_bytes};
 ghost use Rattle.outside.specs.Meaning.{key_bytes, env_bytes, signature_of};
 ghost use Rattle.outside.specs.OrderForm.{AreReadsOf, IsActOf, IsOrderOf, paths_of};
 ghost use Rattle.manifest_reader.specs.declared.command.Tool.TheVariants as tools;
@@ -16,7 +16,8 @@ use file_info::node::{NodeName, Read};
 use file_info::path::PathName;
 use manifest_reader::command::{Args, Command, EnvPair, Input, InputForm};
 use outside::order::{Act, EnvText, Order};
-use std::alloc::{AllocError, Global};
+use spelling::{push_count, push_flag, push_node, push_text};
+use std::alloc::Global;
 
 // The byte that begins the text of a shell command.
 const SHELL: u8 = 1;
@@ -31,30 +32,7 @@ const TREE: u8 = 5;
 
 const STRUCTURE: u8 = 6;
 
-// A count in four bytes, the highest first.
-#[tactic(auto, unfolding(outside::specs::Spelled::count_bytes))]
-fn push_count(out: &mut Vec<u8>, count: usize) -> Result<(), AllocError>
-    ensures { OnOk result (out.new.items ≡ out.old.items ++ count_bytes count) }
-{
-    out.extend_from_slice(&(count as u64).to_be_bytes()[4..])
-}
-
-// A text: its length and its bytes.
-fn push_text(out: &mut Vec<u8>, text: &[u8]) -> Result<(), AllocError>
-    ensures { OnOk result (out.new.items ≡ out.old.items ++ text_bytes text.now) }
-{
-    push_count(out, text.len())?;
-    out.extend_from_slice(text)
-}
-
-fn push_flag(out: &mut Vec<u8>, flag: bool) -> Result<(), AllocError>
-    ensures { OnOk result (out.new.items ≡ out.old.items ++ flag_bytes flag) }
-{
-    out.push(u8::from(flag))?;
-    Ok(())
-}
-
-fn push_texts(out: &mut Vec<u8>, texts: &List<Bytes>) -> Result<(), AllocError>
+fn push_texts(out: &mut Vec<u8>, texts: &List<Bytes>) -> Result<(), NoMemory>
     ensures { OnOk result (out.new.items ≡ out.old.items ++ list_bytes text_bytes texts.now) }
 {
     push_count(out, texts.len())?;
@@ -62,21 +40,6 @@ fn push_texts(out: &mut Vec<u8>, texts: &List<Bytes>) -> Result<(), AllocError>
         push_text(out, text.as_slice())?;
     }
     Ok(())
-}
-
-fn push_node(out: &mut Vec<u8>, node: &NodeName) -> Result<(), AllocError>
-    ensures { OnOk result (out.new.items ≡ out.old.items ++ node_bytes node.now) }
-{
-    match node {
-        NodeName::Path(path) => {
-            out.push(0)?;
-            push_text(out, path.text().as_bytes())
-        }
-        NodeName::Virtual(name) => {
-            out.push(1)?;
-            push_text(out, name.text().as_bytes())
-        }
-    }
 }
 
 // The text of a node, without what tells paths and virtual names apart.
@@ -94,7 +57,7 @@ fn push_listed(
     tag: u8,
     node: &NodeName,
     patterns: &List<Bytes>,
-) -> Result<(), AllocError>
+) -> Result<(), NoMemory>
     ensures { OnOk result (out.new.items ≡ out.old.items ++ tag ∷ text_bytes (node_text node.now) ++ list_bytes text_bytes patterns.now) }
 {
     out.push(tag)?;
@@ -102,7 +65,7 @@ fn push_listed(
     push_texts(out, patterns)
 }
 
-fn push_key(out: &mut Vec<u8>, input: &Input) -> Result<(), AllocError>
+fn push_key(out: &mut Vec<u8>, input: &Input) -> Result<(), NoMemory>
     ensures { OnOk result (out.new.items ≡ out.old.items ++ key_bytes (key_of input.now)) }
 {
     match &input.form {
@@ -115,7 +78,7 @@ fn push_key(out: &mut Vec<u8>, input: &Input) -> Result<(), AllocError>
     }
 }
 
-fn push_keys(out: &mut Vec<u8>, inputs: &List<Input>) -> Result<(), AllocError>
+fn push_keys(out: &mut Vec<u8>, inputs: &List<Input>) -> Result<(), NoMemory>
     ensures { OnOk result (out.new.items ≡ out.old.items ++ list_bytes key_bytes (map key_of inputs.now)) }
 {
     push_count(out, inputs.len())?;
@@ -125,7 +88,7 @@ fn push_keys(out: &mut Vec<u8>, inputs: &List<Input>) -> Result<(), AllocError>
     Ok(())
 }
 
-fn push_nodes(out: &mut Vec<u8>, nodes: &List<NodeName>) -> Result<(), AllocError>
+fn push_nodes(out: &mut Vec<u8>, nodes: &List<NodeName>) -> Result<(), NoMemory>
     ensures { OnOk result (out.new.items ≡ out.old.items ++ list_bytes node_bytes nodes.now) }
 {
     push_count(out, nodes.len())?;
@@ -135,7 +98,7 @@ fn push_nodes(out: &mut Vec<u8>, nodes: &List<NodeName>) -> Result<(), AllocErro
     Ok(())
 }
 
-fn push_env(out: &mut Vec<u8>, env: &List<EnvPair>) -> Result<(), AllocError>
+fn push_env(out: &mut Vec<u8>, env: &List<EnvPair>) -> Result<(), NoMemory>
     ensures { OnOk result (out.new.items ≡ out.old.items ++ list_bytes env_bytes (map variable_of env.now)) }
 {
     push_count(out, env.len())?;
@@ -146,7 +109,7 @@ fn push_env(out: &mut Vec<u8>, env: &List<EnvPair>) -> Result<(), AllocError>
     Ok(())
 }
 
-fn push_paths(out: &mut Vec<u8>, paths: &List<PathName>) -> Result<(), AllocError>
+fn push_paths(out: &mut Vec<u8>, paths: &List<PathName>) -> Result<(), NoMemory>
     ensures { OnOk result (out.new.items ≡ out.old.items ++ list_bytes text_bytes paths.now) }
 {
     push_count(out, paths.len())?;
@@ -156,7 +119,7 @@ fn push_paths(out: &mut Vec<u8>, paths: &List<PathName>) -> Result<(), AllocErro
     Ok(())
 }
 
-fn push_args(out: &mut Vec<u8>, args: &Args) -> Result<(), AllocError>
+fn push_args(out: &mut Vec<u8>, args: &Args) -> Result<(), NoMemory>
     ensures { OnOk result (out.new.items ≡ out.old.items ++ program_bytes args.now) }
 {
     match args {
@@ -177,7 +140,7 @@ fn push_args(out: &mut Vec<u8>, args: &Args) -> Result<(), AllocError>
 }
 
 // What is run: a signature of the command's own, or else its words and its variables.
-fn push_program(out: &mut Vec<u8>, command: &Command) -> Result<(), AllocError>
+fn push_program(out: &mut Vec<u8>, command: &Command) -> Result<(), NoMemory>
     ensures { OnOk result (out.new.items ≡ out.old.items ++ definition_bytes command.now.signature command.now.args command.now.env) }
 {
     match &command.signature {

@@ -1,9 +1,10 @@
 -- Each tree that is read has texts in UTF-8 and distinct names.
-use Rattle.std.proofs.Common.{◌≡◌, ℕ, zero, suc, Bool, true, false, ◌||◌, List, [], ◌∷◌, ◌++◌, length, drop, map, Ok, refl, sym, ap, subst, ◌∙◌, ◌⊎◌, inl, inr, arith}
+use Rattle.std.proofs.Common.{◌≡◌, ℕ, zero, suc, Bool, true, false, ◌||◌, List, [], ◌∷◌, ◌++◌, length, drop, map, Ok, refl, sym, ap, subst, ◌∙◌, inl, inr, arith}
 use Rattle.std.specs.Prelude.{IsUtf8, IfOk, bytes_eq}
 use Rattle.std.proofs.lemmas.Slice.Eq.{bytes_eq-Decides}
 use Rattle.std.proofs.lemmas.Str.{IsUtf8-nil}
 use Rattle.file_info.specs.Lists.{In, IsDistinct}
+use Rattle.file_info.proofs.Lists.{distinct-more}
 use Rattle.yaml_profile.specs.declared.yaml.Yaml.{Yaml}
 use Rattle.yaml_profile.specs.declared.yaml.Yaml.TheOpen.{Yaml-F}
 use Rattle.yaml_profile.specs.declared.yaml.Yaml.TheVariants.{Scalar, Seq, Map, outs-Scalar, outs-Seq, outs-Map}
@@ -24,25 +25,6 @@ use Rattle.yaml_profile.proofs.SpaceLemmas.{past_white_utf8, spaced_utf8}
 pub each_more : {A : Type 0} (P : A → Type 0) (xs : List A) (x : A) → Each P xs → P x → Each P (xs ++ x ∷ [])
 each_more P [] x e h = (h, tt)
 each_more P (y ∷ ys) x e h = (e.0, each_more P ys x e.1 h)
-
-in_more : (q n : List ℕ) (xs : List (List ℕ)) → In q (xs ++ n ∷ []) → (q ≡ n) ⊎ In q xs
-in_more q n [] (inl e) = inl e
-in_more q n [] (inr h) = absurd h
-in_more q n (x ∷ xs) (inl e) = inr (inl e)
-in_more q n (x ∷ xs) (inr h) = go (in_more q n xs h)
-  where
-    go : (q ≡ n) ⊎ In q xs → (q ≡ n) ⊎ ((q ≡ x) ⊎ In q xs)
-    go (inl e) = inl e
-    go (inr k) = inr (inr k)
-
-distinct_more : (n : List ℕ) (xs : List (List ℕ)) → IsDistinct xs → (In n xs → ⊥) → IsDistinct (xs ++ n ∷ [])
-distinct_more n [] d new = (λ h. h, tt)
-distinct_more n (x ∷ xs) d new =
-    (λ h. go (in_more x n xs h), distinct_more n xs d.1 (λ h. new (inr h)))
-  where
-    go : (x ≡ n) ⊎ In x xs → ⊥
-    go (inl e) = new (inl (sym e))
-    go (inr h) = d.0 h
 
 names_more : (n : List ℕ) (v : Yaml) (ps : List Pair) → map name_of (ps ++ pair n v ∷ []) ≡ map name_of ps ++ n ∷ []
 names_more n v [] = refl
@@ -67,7 +49,7 @@ pub pairs_more : (P : Yaml → Type 0) (found : List Pair) (n : List ℕ) (v : Y
 pairs_more P found n v h u new ok =
     let D : List (List ℕ) → Type 0 = λ l. IsDistinct l in (
       each_more (λ p. IsUtf8 (name_of p) × P (tree.value_of p)) found (pair n v) h.0 (u, ok),
-      subst D (sym (names_more n v found)) (distinct_more n (map name_of found) h.1 (λ k. absurd (different (named n found k) new))),
+      subst D (sym (names_more n v found)) (distinct-more (map name_of found) n h.1 (λ k. absurd (different (named n found k) new))),
     )
   where
     different : {b : Bool} → b ≡ true → b ≡ false → ⊥

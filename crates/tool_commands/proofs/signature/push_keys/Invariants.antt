@@ -1,5 +1,5 @@
 use Rattle.std.proofs.Common.{◌≡◌, ◌++◌, take}
-use Rattle.outside.specs.Spelled.{items_bytes}
+use Rattle.spelling.specs.Spelling.{items_bytes}
 use Rattle.outside.specs.Meaning.{key_bytes}
 use Rattle.manifest_reader.specs.declared.command.Input.{Input}
 use Rattle.build_meaning.specs.Commands.{key_of}

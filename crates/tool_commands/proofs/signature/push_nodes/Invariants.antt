@@ -1,5 +1,5 @@
 use Rattle.std.proofs.Common.{◌≡◌, ◌++◌, take}
-use Rattle.outside.specs.Spelled.{items_bytes, node_bytes}
+use Rattle.spelling.specs.Spelling.{items_bytes, node_bytes}
 use Rattle.tool_commands.proofs.signature.push_nodes.Given as goal
 
 abbrev pub invariant-loop-node : goal.invariant-loop-node

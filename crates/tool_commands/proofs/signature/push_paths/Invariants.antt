@@ -1,5 +1,5 @@
 use Rattle.std.proofs.Common.{◌≡◌, ◌++◌, take}
-use Rattle.outside.specs.Spelled.{items_bytes, text_bytes}
+use Rattle.spelling.specs.Spelling.{items_bytes, text_bytes}
 use Rattle.tool_commands.proofs.signature.push_paths.Given as goal
 
 abbrev pub invariant-loop-path : goal.invariant-loop-path

@@ -1,5 +1,5 @@
 use Rattle.std.proofs.Common.{◌≡◌, ◌++◌, take}
-use Rattle.outside.specs.Spelled.{items_bytes, text_bytes}
+use Rattle.spelling.specs.Spelling.{items_bytes, text_bytes}
 use Rattle.tool_commands.proofs.signature.push_texts.Given as goal
 
 abbrev pub invariant-loop-text : goal.invariant-loop-text

@@ -1,12 +1,12 @@
 use Rattle.std.proofs.Common.{rules, ◌≡◌, ◌⊎◌, ◌∙◌, ◌++◌, ◌∷◌, [], ℕ, List, true, false, drop, take, length, sym, ap, subst, arith, inl, inr}
 use Rattle.std.specs.Prelude.{slice_get, Some}
 use Rattle.std.proofs.lemmas.List.{length-take}
+use Rattle.file_info.proofs.Lists.{In-get, get-read, take-drop-get}
 use Rattle.file_info.specs.Lists.{In}
 use Rattle.file_info.specs.declared.info.Info.{Info}
 use Rattle.build_meaning.specs.Fresh.{IsMade}
 use Rattle.build_meaning.specs.Need.{IsNeeded}
 use Rattle.build_meaning.specs.Orderly.{AreOrderly}
-use Rattle.build_meaning.proofs.PlaceLemmas.{In-get}
 use Rattle.build_meaning.proofs.OrderlyLemmas.{orderly}
 use Rattle.build_report.specs.declared.report.Start.{Start}
 use Rattle.llbuild_cli.specs.Journal.{Knows}
@@ -21,7 +21,6 @@ use Rattle.llbuild_cli.proofs.NeedLemmas.{made_once, inputs_settled, outputs_uns
 use Rattle.llbuild_cli.proofs.PlaceLemmas.{made_here, stands_ran, stands_skip}
 use Rattle.llbuild_cli.proofs.StartLemmas.{starts_few, starts_more, starts_skip, are_starts, not_started}
 use Rattle.llbuild_cli.proofs.StopLemmas.{build_stopped, came_starts, done_one, even_names, is_next, names_both, orders_one, orders_stopped, starts_grow, starts_stopped, step_stopped, wrote_more, wrote_stopped}
-use Rattle.build_meaning.proofs.PlaceLemmas.{In-get, get-read, take-drop-get}
 use Rattle.llbuild_cli.proofs.serial.build.run_all.Goals as goal
 
 pub run_one-requires-clause-sound : goal.run_one-requires-clause-sound

@@ -1,6 +1,6 @@
 use Rattle.std.proofs.Common.{rules, ◌≡◌, ◌∙◌, ◌++◌, ◌∷◌, ◌+◌, [], ℕ, List, length, refl, sym, ap, subst, arith, inl, inr}
+use Rattle.file_info.proofs.Lists.{In-either, In-left, In-one, In-right}
 use Rattle.file_info.specs.Lists.{In}
-use Rattle.build_meaning.proofs.PlaceLemmas.{In-left, In-right, In-either, In-one}
 use Rattle.build_report.specs.declared.report.Start.{Start}
 use Rattle.build_report.specs.declared.report.StatSeen.{StatSeen}
 use Rattle.llbuild_cli.specs.Start.{start_of}

@@ -1,9 +1,9 @@
 use Rattle.std.proofs.Common.{rules, ◌≡◌, ◌+◌, ◌++◌, ◌∷◌, [], take, drop, sym, ◌∙◌, ap, subst}
 use Rattle.std.proofs.lemmas.List.{take_more}
+use Rattle.file_info.proofs.Lists.{In-at, In-one, take-drop}
 use Rattle.file_info.specs.Lists.{In}
 use Rattle.manifest_reader.specs.declared.command.Input.{Input}
 use Rattle.llbuild_cli.specs.Journal.{Knows}
-use Rattle.build_meaning.proofs.PlaceLemmas.{In-at, In-one, take-drop}
 use Rattle.llbuild_cli.proofs.ProgressLemmas.{stayed_both, looked_kept, looked_both, looked_stayed, looked_wider, if_err}
 use Rattle.llbuild_cli.proofs.InputLemmas.{read_more, all_read_on, read_stop}
 use Rattle.llbuild_cli.proofs.serial.look.gather.Goals as goal
