@@ -1,7 +1,7 @@
 //! Whole runs, over worlds in memory and over real files.
 ghost use Rattle.std.specs.Prelude.{◌≡◌, [], IfOk};
 
-use build_report::report::{End, Finish, Heard, Outcome, Reason, Start};
+use build_report::report::{End, Finish, Heard, Outcome, Reason, Report, Start};
 use file_info::info::Info;
 use file_info::list::{Bytes, List};
 use file_info::path::PathName;
@@ -18,8 +18,6 @@ use std::fs;
 use std::process::Abort;
 use std::str::Split;
 use std::test::Fail;
-
-mod words;
 
 const LINE: &str = "buildsystem build --serial --no-db -f m.llbuild all";
 
@@ -145,22 +143,22 @@ fn ended(rt: &impl Abort, ran: &Ran, end: &str, status: u8, err: &str) {
     assert_eq!(rt; ran.err.bytes(), err.as_bytes());
 }
 
-// The commands of these names were started, in this order, each with its name shown.
-fn started(rt: &impl Abort, starts: &List<Start>, names: &[&str]) {
-    assert_eq!(rt; starts.len(), names.len());
-    for (start, name) in starts.as_slice().iter().zip(names) {
-        assert_eq!(rt; start.command.text(), *name);
-        assert_eq!(rt; start.shown.as_slice(), name.as_bytes());
-        assert!(rt; matches!(&start.reason, Reason::NeverBuilt));
-    }
+// The command of this name was started with its name shown, and ended with success.
+fn was_done(rt: &impl Abort, start: &Start, heard: &Heard, name: &str) {
+    assert_eq!(rt; start.command.text(), name);
+    assert_eq!(rt; start.shown.as_slice(), name.as_bytes());
+    assert!(rt; matches!(&start.reason, Reason::NeverBuilt));
+    assert_eq!(rt; heard.order.command.text(), name);
+    assert!(rt; matches!(&heard.outcome, Outcome::Done { .. }));
 }
 
-// The commands of these names ended with success, in this order.
-fn all_done(rt: &impl Abort, heard: &List<Heard>, names: &[&str]) {
-    assert_eq!(rt; heard.len(), names.len());
-    for (one, name) in heard.as_slice().iter().zip(names) {
-        assert_eq!(rt; one.order.command.text(), *name);
-        assert!(rt; matches!(&one.outcome, Outcome::Done { .. }));
+// The commands of these names were started and ended with success, in this order.
+fn all_done(rt: &impl Abort, report: &Report<NoFault>, names: &[&str]) {
+    assert_eq!(rt; report.starts.len(), names.len());
+    assert_eq!(rt; report.heard.len(), names.len());
+    let ends = report.starts.as_slice().iter().zip(report.heard.as_slice());
+    for ((start, heard), name) in ends.zip(names) {
+        was_done(rt, start, heard, name);
     }
 }
 
@@ -168,13 +166,12 @@ fn all_done(rt: &impl Abort, heard: &List<Heard>, names: &[&str]) {
 fn built(rt: &impl Abort, ran: &Ran, names: &[&str], out: &str) {
     ended(rt, ran, "Ok", 0, "");
     assert_eq!(rt; ran.out.bytes(), out.as_bytes());
-    started(rt, &ran.finish.report.starts, names);
-    all_done(rt, &ran.finish.report.heard, names);
-    assert_eq!(rt; ran.finish.report.stats.len(), 1);
-    for seen in ran.finish.report.stats.as_slice() {
-        assert_eq!(rt; seen.path.text(), "s");
-        assert!(rt; matches!(&seen.info, Info::File { .. }));
-    }
+    all_done(rt, &ran.finish.report, names);
+    let [seen] = ran.finish.report.stats.as_slice() else {
+        return assert!(rt; false);
+    };
+    assert_eq!(rt; seen.path.text(), "s");
+    assert!(rt; matches!(&seen.info, Info::File { .. }));
 }
 
 // A build of `CHAIN` stopped after so many starts: a beginning of what the whole build writes was written, with a line for
@@ -224,9 +221,17 @@ one|fail|buildsystem build --serial --no-db -f m.llbuild all|CommandFailed|1|[1]
 chain|fail|buildsystem build --serial --no-db -f m.llbuild all|CommandFailed|1|[1] first;[2] second;|error: command second ended with status 1;
 short|-|buildsystem build --serial --no-db -f m.llbuild all|Manifest|2||error: manifest: not yet;
 alias|-|buildsystem build --serial --no-db -f m.llbuild all|Manifest|2||error: manifest: left out at byte 8: alias;
-one|one|buildsystem build --serial -f m.llbuild all|Usage|2||error: usage: the words are refused;
+one|one||Usage|2||error: usage: the words are refused;
+one|one|buildsystem build --serial --no-db -f m.llbuild|Usage|2||error: usage: the words are refused;
 one|one|buildsystem build --serial --no-db -f m.llbuild all t|Usage|2||error: usage: the words are refused;
-one|one|buildsystem build --serial --no-db -f other/m.llbuild all|NoFile|2||error: no file other/m.llbuild;
+one|one|buildsystem build --serial -f m.llbuild all|Usage|2||error: usage: the words are refused;
+one|one|buildsystem build --no-db --serial -f m.llbuild all|Usage|2||error: usage: the words are refused;
+one|one|buildsystem build --serial --no-db -j m.llbuild all|Usage|2||error: usage: the words are refused;
+one|one|buildsystem Build --serial --no-db -f m.llbuild all|Usage|2||error: usage: the words are refused;
+one|one|build build --serial --no-db -f m.llbuild all|Usage|2||error: usage: the words are refused;
+one|one|buildsystem build --serial --no-db -f  all|Usage|2||error: usage: the words are refused;
+one|one|buildsystem build --serial --no-db -f /.. all|Usage|2||error: usage: the words are refused;
+one|one|buildsystem build --serial --no-db -f ./other//m.llbuild all|NoFile|2||error: no file other/m.llbuild;
 one|one|buildsystem build --serial --no-db -f . all|NoFile|2||error: no file .;
 one|one|buildsystem build --serial --no-db -f m.llbuild t|UnknownTarget|2||error: unknown target t;
 one|-|buildsystem build --serial --no-db -f m.llbuild |UnknownTarget|2||error: unknown target ;";
