@@ -1,10 +1,9 @@
 -- A path with one part more.
-use Rattle.std.proofs.Common.{◌≡◌, ◌≢◌, ℕ, ◌+◌, ◌-◌, ◌<◌, ◌≤◌, List, [], ◌∷◌, ◌++◌, length, refl, ap, arith, rules, true, false, sym, ◌∙◌, subst, cond, Bool, suc, zero, append_assoc}
+use Rattle.std.proofs.Common.{◌≡◌, ◌≢◌, ℕ, ◌≤◌, List, [], ◌∷◌, ◌++◌, length, refl, ap, arith, true, false, sym, ◌∙◌, subst, cond, Bool, append_assoc}
 use Rattle.std.specs.Prelude.{All, ◌==◌, replicate}
-use Rattle.std.proofs.lemmas.Grind.{common_steps}
 use Rattle.std.proofs.lemmas.List.Elements.{All-append, All-cons, All-nil}
 use Rattle.std.specs.List.{join_with_byte}
-use Rattle.file_info.specs.Path.{is_skipped, is_up, relative_text, absolute_text, dots}
+use Rattle.file_info.specs.Path.{is_skipped, relative_text, absolute_text, dots}
 use Rattle.file_info.specs.Normal.{IsPlainPart, IsNormal, IsPath, absolute_path, relative_path}
 use Rattle.file_info.specs.Under.{front_of, joined_with}
 use Rattle.file_info.proofs.WayLemmas.{join_with_byte-more}

@@ -1,7 +1,6 @@
 -- What stands after a folder.
-use Rattle.std.proofs.Common.{◌≡◌, ◌≢◌, ℕ, Bool, true, false, not, IsTrue, refl, List, [], ◌∷◌, ◌++◌, length, drop, ap, arith, sym, ◌∙◌, append_assoc}
+use Rattle.std.proofs.Common.{◌≡◌, ◌≢◌, ℕ, Bool, true, false, not, IsTrue, refl, List, [], ◌∷◌, ◌++◌, ap, sym, ◌∙◌, append_assoc}
 use Rattle.std.specs.Prelude.{Option, Some, None, MatchOption}
-use Rattle.std.proofs.lemmas.Grind.{common_steps}
 use denote.Ref.{Bor}
 
 same_rest : (root more rest : List ℕ) → root ++ more ≡ root ++ rest → more ≡ rest

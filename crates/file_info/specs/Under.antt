@@ -20,10 +20,11 @@ leads_up (a ∷ []) = false
 leads_up (a ∷ b ∷ []) = a == 46 && b == 46
 leads_up (a ∷ b ∷ c ∷ bytes) = a == 46 && (b == 46 && c == 47)
 
--- one part or more, of which the first is neither `.` alone nor `..`
+-- one part or more, of which the first is not empty, not `.` alone and not `..`
 pub record GoesDown (rest : List ℕ) : Type 0 where
   pub not_empty : rest ≢ []
   pub not_dot : rest ≢ 46 ∷ []
+  pub not_rooted : is_absolute rest ≡ false
   pub not_up : leads_up rest ≡ false
 
 -- the path is the root and then this rest, which goes down; both are absolute, or neither is

@@ -48,7 +48,7 @@ fn goes_down(rest: &[u8]) -> bool
     ensures { IsTrue result ↔ GoesDown rest.now }
 {
     match rest {
-        [] | [b'.'] => false,
+        [] | [b'.'] | [b'/', ..] => false,
         _ => !leads_up(rest),
     }
 }
