@@ -39,7 +39,7 @@ pub way_of-names : (names : List (List ℕ)) → Each IsPlainPart names → way_
 way_of-names [] e = refl
 way_of-names (name ∷ names) e = rw (e.0.not_skipped, e.0.not_up, way_of-names names e.1) refl
 
-way_of-all : (ups : ℕ) (names : List (List ℕ)) → Each IsPlainPart names → way_of (replicate ups dots ++ names) ≡ record { ups = ups; names = names }
+pub way_of-all : (ups : ℕ) (names : List (List ℕ)) → Each IsPlainPart names → way_of (replicate ups dots ++ names) ≡ record { ups = ups; names = names }
 way_of-all zero names e = way_of-names names e
 way_of-all (suc ups) names e = rw (way_of-all ups names e, add-one) refl
 
