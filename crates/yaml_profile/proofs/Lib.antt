@@ -8,3 +8,4 @@ pub mod ScalarLemmas
 pub mod SpaceLemmas
 pub mod TreeLemmas
 pub mod DocumentLemmas
+pub mod LayerLemmas

@@ -5,3 +5,4 @@ pub mod Flow
 pub mod Block
 pub mod Read
 pub mod Tree
+pub mod Print

@@ -8,11 +8,13 @@ mod fault;
 mod flow;
 mod lines;
 mod pairs;
+mod printer;
 mod reader;
 mod scalar;
 mod text;
 mod yaml;
 
 pub use error::{Feature, YamlError};
+pub use printer::print;
 pub use reader::read;
 pub use yaml::{Pair, Yaml};
