@@ -13,7 +13,7 @@ use Rattle.yaml_profile.specs.Text.{Text, ◌>>=◌, sees, past_white, spaced}
 use Rattle.yaml_profile.specs.Scalar.{scalar}
 use Rattle.yaml_profile.specs.Mapping.{pair, has_name}
 use Rattle.yaml_profile.specs.Flow.{Reader, left_out, items, after_item, new_key, value_of, pairs, after_pair, inline}
-use Rattle.yaml_profile.specs.Tree.{Each, name_of, IsNode, IsTree}
+use Rattle.yaml_profile.specs.Tree.{Each, name_of, IsText, IsNode, IsTree}
 use Rattle.yaml_profile.specs.Tree as tree
 use Rattle.yaml_profile.proofs.CutLemmas.{behind_byte}
 use Rattle.yaml_profile.proofs.FineLemmas.{Fine, bind, choose, allowed}
@@ -57,7 +57,7 @@ pairs_more P found n v h u new ok =
 
 pub scalar_tree : (depth : ℕ) (text : List ℕ) → IsUtf8 text → IsTree depth (Scalar text)
 unfolding IsTree
-scalar_tree zero text u = let P : Yaml-F Yaml Pair → Type 0 = λ l. IsNode (λ _. ⊥) l in subst P (sym (outs-Scalar text)) u
+scalar_tree zero text u = let P : Yaml-F Yaml Pair → Type 0 = λ l. IsText l in subst P (sym (outs-Scalar text)) u
 scalar_tree (suc depth) text u = let P : Yaml-F Yaml Pair → Type 0 = λ l. IsNode (IsTree depth) l in subst P (sym (outs-Scalar text)) u
 
 pub seq_tree : (depth : ℕ) (ys : List Yaml) → Each (IsTree depth) ys → IsTree (suc depth) (Seq ys)

@@ -18,6 +18,12 @@ name_of p = (out-Pair p).name
 abbrev pub value_of : Pair → Yaml
 value_of p = (out-Pair p).value
 
+-- a scalar in UTF-8
+abbrev pub IsText : Yaml-F Yaml Pair → Type 0
+IsText (Yaml-F.Scalar text) = IsUtf8 text
+IsText (Yaml-F.Seq items) = ⊥
+IsText (Yaml-F.Map pairs) = ⊥
+
 -- a node whose texts are UTF-8 and whose names differ, where the nodes below it are so
 abbrev pub IsNode : (Yaml → Type 0) → Yaml-F Yaml Pair → Type 0
 IsNode P (Yaml-F.Scalar text) = IsUtf8 text
@@ -26,5 +32,5 @@ IsNode P (Yaml-F.Map pairs) = Each (λ p. IsUtf8 (name_of p) × P (value_of p)) 
 
 -- collections nest no deeper than the number, each text and each name is UTF-8, and no mapping has a name twice
 unfoldable pub IsTree : ℕ → Yaml → Type 0
-IsTree zero tree = IsNode (λ _. ⊥) (out-Yaml tree)
+IsTree zero tree = IsText (out-Yaml tree)
 IsTree (suc depth) tree = IsNode (IsTree depth) (out-Yaml tree)
