@@ -9,3 +9,6 @@ pub mod SpaceLemmas
 pub mod TreeLemmas
 pub mod DocumentLemmas
 pub mod LayerLemmas
+pub mod QuotedLemmas
+pub mod StartLemmas
+pub mod InlineLemmas

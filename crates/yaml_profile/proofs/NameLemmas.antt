@@ -22,7 +22,7 @@ or_swap true false c = refl
 or_swap false true c = refl
 or_swap false false c = refl
 
-has_name-append : (q name : List ℕ) (value : Yaml) (ps : List Pair) → has_name q (ps ++ pair name value ∷ []) ≡ (bytes_eq q name || has_name q ps)
+pub has_name-append : (q name : List ℕ) (value : Yaml) (ps : List Pair) → has_name q (ps ++ pair name value ∷ []) ≡ (bytes_eq q name || has_name q ps)
 unfolding has_name
 has_name-append q name value [] = refl
 has_name-append q name value (p ∷ ps) =

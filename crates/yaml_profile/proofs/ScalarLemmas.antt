@@ -17,7 +17,7 @@ use Rattle.yaml_profile.proofs.FineLemmas.{Fine, bind, choose, choose_option, pi
 abbrev Both : List ℕ × Text → Type 0
 Both x = IsUtf8 x.0 × IsUtf8 x.1
 
-byte_utf8 : (b : ℕ) → b < 128 → IsUtf8 (b ∷ [])
+pub byte_utf8 : (b : ℕ) → b < 128 → IsUtf8 (b ∷ [])
 byte_utf8 b small = along _ _ (encode_ascii b small) (IsUtf8-encode b (grind (arith, nat_tests)))
 
 -- ---- single-quoted
@@ -69,7 +69,7 @@ hex_fine whole (suc n) number (b ∷ t) u = go (hex_fine whole n) (hex_value b) 
 scalar_is : (c : ℕ) → is_scalar_value c ≡ true → IsScalar c
 scalar_is c h = grind (arith, nat_tests)
 
-small_scalar : (c : ℕ) → c < 128 → is_scalar_value c ≡ true
+pub small_scalar : (c : ℕ) → c < 128 → is_scalar_value c ≡ true
 small_scalar c h = grind (arith, nat_tests)
 
 -- the byte of an escape that stands for k
