@@ -12,3 +12,6 @@ pub mod LayerLemmas
 pub mod QuotedLemmas
 pub mod StartLemmas
 pub mod InlineLemmas
+pub mod LineLemmas
+pub mod PrintedLemmas
+pub mod PrintedDocumentLemmas

@@ -15,6 +15,6 @@ mod text;
 mod yaml;
 
 pub use error::{Feature, YamlError};
-pub use printer::print;
+pub use printer::{print, printed_trees_are_read, spellings_differ};
 pub use reader::read;
 pub use yaml::{Pair, Yaml};

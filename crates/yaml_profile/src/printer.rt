@@ -1,6 +1,8 @@
 //! From tree to text.
-ghost use Rattle.std.specs.Prelude.{◌≡◌, ◌+◌, ◌*◌, ◌<◌, ◌≤◌, ◌++◌, OnOk, OnErr, map, replicate};
+ghost use Rattle.std.specs.Prelude.{◌≡◌, ◌+◌, ◌*◌, ◌<◌, ◌≤◌, ◌++◌, Ok, OnOk, OnErr, length, map, replicate};
 ghost use Rattle.yaml_profile.specs.Print as spec;
+ghost use Rattle.yaml_profile.specs.Read.{yaml_of};
+ghost use Rattle.yaml_profile.specs.Tree.{IsTree};
 
 use crate::yaml::{Pair, Yaml};
 use file_info::list::{Bytes, List};
@@ -199,6 +201,18 @@ pub fn print(alloc: Global, tree: &Yaml, out: &mut Bytes) -> Result<(), NoMemory
     added?;
     Ok(())
 }
+
+/// The law that what is printed is read back: the spelling of a tree that is as the trees of `read` are gives that tree again,
+/// where it is no longer than a text may be.
+pub fn printed_trees_are_read()
+    ensures { (tree : Yaml) → IsTree 64 tree → length (spec.spelling tree) ≤ 67108864 → yaml_of (spec.spelling tree) ≡ Ok tree }
+{}
+
+/// The law that no two such trees have the same spelling.
+pub fn spellings_differ()
+    ensures { (tree other : Yaml) → IsTree 64 tree → IsTree 64 other → length (spec.spelling tree) ≤ 67108864
+        → spec.spelling tree ≡ spec.spelling other → tree ≡ other }
+{}
 
 #[cfg(test)]
 mod tests {
