@@ -219,6 +219,7 @@ mod tests {
     use super::*;
     use crate::error::YamlError;
     use crate::reader::read;
+    use std::process::Abort;
     use std::test::Fail;
 
     /// Texts, and what their trees print as.
@@ -259,17 +260,74 @@ mod tests {
         }
     }
 
+    fn expect_print(
+        rt: &impl Abort,
+        alloc: Global,
+        text: &[u8],
+        wanted: &[u8],
+    ) -> Result<(), Fail> {
+        match printed(alloc, text) {
+            Ok(out) => assert_eq!(rt; out.as_slice(), wanted, "{text:?}"),
+            Err(error) => assert!(rt; false, "{text:?} is refused: {error:?}"),
+        }
+        Ok(())
+    }
+
     #[test]
     fn prints_the_canonical_spelling(rt: HostRuntime) -> Result<(), Fail> {
         for (text, wanted) in SPELLINGS {
             for text in [text, wanted] {
-                match printed(rt.alloc(), text.as_bytes()) {
-                    Ok(out) => assert_eq!(rt; out.as_slice(), wanted.as_bytes(), "{text:?}"),
-                    Err(error) => assert!(rt; false, "{text:?} is refused: {error:?}"),
-                }
+                expect_print(&rt, rt.alloc(), text.as_bytes(), wanted.as_bytes())?;
             }
         }
         Ok(())
+    }
+
+    // The text between so many of both marks.
+    fn wrapped(
+        alloc: Global,
+        open: &[u8],
+        text: &[u8],
+        close: &[u8],
+    ) -> Result<Vec<u8>, AllocError> {
+        let mut all = Vec::new(alloc);
+        for _ in 0..DEPTH_MAX {
+            all.extend_from_slice(open)?;
+        }
+        all.extend_from_slice(text)?;
+        for _ in 0..DEPTH_MAX {
+            all.extend_from_slice(close)?;
+        }
+        Ok(all)
+    }
+
+    // The spelling of as many mappings in one another as there may be.
+    fn deepest_lines(alloc: Global) -> Result<Vec<u8>, AllocError> {
+        let mut all = Vec::new(alloc);
+        for level in 0..DEPTH_MAX {
+            if level > 0 {
+                all.push(b'\n')?;
+            }
+            for _ in 0..level {
+                all.extend_from_slice(b"  ")?;
+            }
+            all.extend_from_slice(b"\"k\":")?;
+        }
+        all.extend_from_slice(b" \"v\"\n")?;
+        Ok(all)
+    }
+
+    #[test]
+    fn prints_the_deepest_trees(rt: HostRuntime) -> Result<(), Fail> {
+        let alloc = rt.alloc();
+        let lines = deepest_lines(alloc)?;
+        expect_print(&rt, alloc, &wrapped(alloc, b"{k: ", b"v", b"}")?, &lines)?;
+        expect_print(&rt, alloc, &lines, &lines)?;
+        let brackets = wrapped(alloc, b"[", b"", b"]")?;
+        let mut line = wrapped(alloc, b"[", b"", b"]")?;
+        line.push(b'\n')?;
+        expect_print(&rt, alloc, &brackets, &line)?;
+        expect_print(&rt, alloc, &line, &line)
     }
 
     #[test]
