@@ -202,13 +202,13 @@ pub fn print(alloc: Global, tree: &Yaml, out: &mut Bytes) -> Result<(), NoMemory
     Ok(())
 }
 
-/// The law that what is printed is read back: the spelling of a tree that is as the trees of `read` are gives that tree again,
-/// where it is no longer than a text may be.
+/// The law that what is printed is read back: the spelling of a tree gives the same tree, if the tree is as `read` ensures of
+/// each of its own, and the spelling is no longer than a text may be.
 pub fn printed_trees_are_read()
     ensures { (tree : Yaml) → IsTree 64 tree → length (spec.spelling tree) ≤ 67108864 → yaml_of (spec.spelling tree) ≡ Ok tree }
 {}
 
-/// The law that no two such trees have the same spelling.
+/// No two such trees have the same spelling.
 pub fn spellings_differ()
     ensures { (tree other : Yaml) → IsTree 64 tree → IsTree 64 other → length (spec.spelling tree) ≤ 67108864
         → spec.spelling tree ≡ spec.spelling other → tree ≡ other }
