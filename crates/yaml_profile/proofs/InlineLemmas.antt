@@ -51,7 +51,8 @@ abbrev items_text : ℕ → List Yaml → List ℕ
 items_text depth ys = with_commas (map (flow_text depth) ys)
 
 abbrev items_from : Reader Yaml → ℕ → List Yaml → Text → Outcome Yaml
-items_from node n found s = cond (sees 93 s) (Ok (Seq found, drop 1 s)) (node s >>= λ item. after_item (items node n) (found ++ item.0 ∷ []) (spaced item.1))
+items_from node n found s =
+    cond (sees 93 s) (Ok (Seq found, drop 1 s)) (node s >>= λ item. after_item (items node n) (found ++ item.0 ∷ []) (spaced item.1))
 
 items_turn : (node : Reader Yaml) (n : ℕ) (found : List Yaml) (t : Text) → items node (suc n) found t ≡ items_from node n found (spaced t)
 unfolding items
@@ -62,30 +63,35 @@ one_item : (depth n : ℕ) (found : List Yaml) (y : Yaml) (rest : Text) → IsIn
 one_item depth n found y rest r =
     let t = flow_text depth y ++ rest in
     let read : Outcome Yaml → Outcome Yaml = λ o. o >>= λ item. after_item (items (inline depth true) n) (found ++ item.0 ∷ []) (spaced item.1) in
-    ap (λ (c : Bool). cond c (Ok (Seq found, drop 1 t)) (read (inline depth true t))) (node_start t (started_more (flow_text depth y) rest r.started)).no_bracket
+    ap (λ (c : Bool). cond c (Ok (Seq found, drop 1 t)) (read (inline depth true t)))
+    (node_start t (started_more (flow_text depth y) rest r.started)).no_bracket
     ∙ ap read (r.again true rest)
 
 items_start : (depth : ℕ) (y : Yaml) (ys : List Yaml) (rest : Text) → IsInline depth y → IsStarted (items_text depth (y ∷ ys) ++ rest)
 unfolding with_commas
 items_start depth y [] rest r = started_more (flow_text depth y) rest r.started
-items_start depth y (z ∷ ys) rest r = started_more (items_text depth (y ∷ z ∷ ys)) rest (started_more (flow_text depth y) (44 ∷ 32 ∷ items_text depth (z ∷ ys)) r.started)
+items_start depth y (z ∷ ys) rest r =
+    started_more (items_text depth (y ∷ z ∷ ys)) rest (started_more (flow_text depth y) (44 ∷ 32 ∷ items_text depth (z ∷ ys)) r.started)
 
 items_read : (depth : ℕ) (ys : List Yaml) (n : ℕ) (found : List Yaml) (t rest : Text) → Each (IsInline depth) ys → length ys ≤ n
     → spaced t ≡ items_text depth ys ++ 93 ∷ rest → items (inline depth true) (suc n) found t ≡ Ok (Seq (found ++ ys), rest)
 unfolding with_commas
 items_read depth [] n found t rest all le e =
-    items_turn (inline depth true) n found t ∙ ap (items_from (inline depth true) n found) e ∙ ap (λ (w : List Yaml). Ok (Seq w, rest)) (sym (append-nil found))
+    items_turn (inline depth true) n found t ∙ ap (items_from (inline depth true) n found) e
+    ∙ ap (λ (w : List Yaml). Ok (Seq w, rest)) (sym (append-nil found))
 items_read depth (y ∷ []) n found t rest all le e =
     items_turn (inline depth true) n found t ∙ ap (items_from (inline depth true) n found) e ∙ one_item depth n found y (93 ∷ rest) all.0
     ∙ ap (after_item (items (inline depth true) n) (found ++ y ∷ [])) (spaced_mark rest).0
 items_read depth (y ∷ z ∷ ys) zero found t rest all le e = absurd (omega arith)
 items_read depth (y ∷ z ∷ ys) (suc n) found t rest all le e =
     let more = items_text depth (z ∷ ys) ++ 93 ∷ rest in
-    let regrouped : items_text depth (y ∷ z ∷ ys) ++ 93 ∷ rest ≡ flow_text depth y ++ (44 ∷ 32 ∷ more) = append_assoc (flow_text depth y) (44 ∷ 32 ∷ items_text depth (z ∷ ys)) (93 ∷ rest) in
+    let regrouped : items_text depth (y ∷ z ∷ ys) ++ 93 ∷ rest ≡ flow_text depth y ++ (44 ∷ 32 ∷ more) =
+    append_assoc (flow_text depth y) (44 ∷ 32 ∷ items_text depth (z ∷ ys)) (93 ∷ rest) in
     items_turn (inline depth true) (suc n) found t ∙ ap (items_from (inline depth true) (suc n) found) (e ∙ regrouped)
     ∙ one_item depth (suc n) found y (44 ∷ 32 ∷ more) all.0
     ∙ ap (after_item (items (inline depth true) (suc n)) (found ++ y ∷ [])) (spaced_mark (32 ∷ more)).1
-    ∙ items_read depth (z ∷ ys) n (found ++ y ∷ []) (32 ∷ more) rest all.1 (omega arith) (kept more (items_start depth z ys (93 ∷ rest) all.1.0)).spaced_space
+    ∙ items_read depth (z ∷ ys) n (found ++ y ∷ []) (32 ∷ more) rest all.1 (omega arith)
+    (kept more (items_start depth z ys (93 ∷ rest) all.1.0)).spaced_space
     ∙ ap (λ (k : List Yaml). Ok (Seq k, rest)) (append_assoc found (y ∷ []) (z ∷ ys))
 
 items_long : (depth : ℕ) (ys : List Yaml) → Each (IsInline depth) ys → length ys ≤ length (items_text depth ys)
@@ -95,7 +101,8 @@ items_long depth (y ∷ []) all = omega (arith, ap length all.0.started.parts)
 items_long depth (y ∷ z ∷ ys) all =
     omega (arith, length-append (flow_text depth y) (44 ∷ 32 ∷ items_text depth (z ∷ ys)), items_long depth (z ∷ ys) all.1)
 
-items_spaced : (depth : ℕ) (ys : List Yaml) (rest : Text) → Each (IsInline depth) ys → spaced (items_text depth ys ++ 93 ∷ rest) ≡ items_text depth ys ++ 93 ∷ rest
+items_spaced : (depth : ℕ) (ys : List Yaml) (rest : Text) → Each (IsInline depth) ys
+    → spaced (items_text depth ys ++ 93 ∷ rest) ≡ items_text depth ys ++ 93 ∷ rest
 unfolding with_commas
 items_spaced depth [] rest all = (spaced_mark rest).0
 items_spaced depth (y ∷ ys) rest all = (kept (items_text depth (y ∷ ys) ++ 93 ∷ rest) (items_start depth y ys (93 ∷ rest) all.0)).spaced_self
@@ -117,7 +124,8 @@ pairs_text depth ps = with_commas (map (pair_text (flow_text depth)) ps)
 
 abbrev pairs_from : Reader Yaml → ℕ → List Pair → Text → Outcome Yaml
 pairs_from node n found s =
-    cond (sees 125 s) (Ok (Map found, drop 1 s)) (new_key found s >>= λ key. (value_of node key.1 >>= λ value. after_pair (pairs node n) (found ++ pair key.0 value.0 ∷ []) (spaced value.1)))
+    cond (sees 125 s) (Ok (Map found, drop 1 s))
+    (new_key found s >>= λ key. (value_of node key.1 >>= λ value. after_pair (pairs node n) (found ++ pair key.0 value.0 ∷ []) (spaced value.1)))
 
 pairs_turn : (node : Reader Yaml) (n : ℕ) (found : List Pair) (t : Text) → pairs node (suc n) found t ≡ pairs_from node n found (spaced t)
 unfolding pairs
@@ -126,31 +134,35 @@ pairs_turn node n found t = refl
 key_read : (found : List Pair) (name : List ℕ) (rest : Text) → has_name name found ≡ false → new_key found (quoted name ++ rest) ≡ Ok (name, rest)
 unfolding new_key
 key_read found name rest h =
-    ap (λ (o : Outcome (List ℕ)). o >>= λ key. cond (has_name key.0 found) (refuse RepeatedKey (quoted name ++ rest)) (Ok key)) (scalar_read true name rest)
+    ap (λ (o : Outcome (List ℕ)). o >>= λ key. cond (has_name key.0 found) (refuse RepeatedKey (quoted name ++ rest)) (Ok key))
+    (scalar_read true name rest)
     ∙ ap (λ (c : Bool). cond c (refuse RepeatedKey (quoted name ++ rest)) (Ok (name, rest))) h
 
-value_read : (depth : ℕ) (y : Yaml) (rest : Text) → IsInline depth y → value_of (inline depth true) (58 ∷ 32 ∷ (flow_text depth y ++ rest)) ≡ Ok (y, rest)
+value_read : (depth : ℕ) (y : Yaml) (rest : Text) → IsInline depth y
+    → value_of (inline depth true) (58 ∷ 32 ∷ (flow_text depth y ++ rest)) ≡ Ok (y, rest)
 unfolding value_of past_white
 value_read depth y rest r =
     let t = flow_text depth y ++ rest in
     let s = started_more (flow_text depth y) rest r.started in
     let node = node_start t s in
     let absent : (sees 44 t || sees 125 t) ≡ false = ap (λ (c : Bool). c || sees 125 t) node.no_comma ∙ node.no_brace in
-    ap (value_or_none (inline depth true)) (kept t s).spaced_space ∙ ap (λ (c : Bool). cond c (Ok (Scalar [], t)) (inline depth true t)) absent ∙ r.again true rest
+    ap (value_or_none (inline depth true)) (kept t s).spaced_space ∙ ap (λ (c : Bool). cond c (Ok (Scalar [], t)) (inline depth true t)) absent
+    ∙ r.again true rest
 
 one_pair : (depth n : ℕ) (found : List Pair) (p : Pair) (rest : Text) → IsInline depth (tree.value_of p) → has_name (name_of p) found ≡ false
-    → pairs_from (inline depth true) n found (pair_text (flow_text depth) p ++ rest) ≡ after_pair (pairs (inline depth true) n) (found ++ p ∷ []) (spaced rest)
+    → pairs_from (inline depth true) n found (pair_text (flow_text depth) p ++ rest)
+    ≡ after_pair (pairs (inline depth true) n) (found ++ p ∷ []) (spaced rest)
 one_pair depth n found p rest r new =
     let node = inline depth true in
     let v = flow_text depth (tree.value_of p) in
-    let regrouped : pair_text (flow_text depth) p ++ rest ≡ quoted (name_of p) ++ (58 ∷ 32 ∷ (v ++ rest)) = append_assoc (quoted (name_of p)) (58 ∷ 32 ∷ v) rest in
+    let after : List Pair → Text → Outcome Yaml = λ now t. after_pair (pairs node n) now (spaced t) in
+    let regrouped : pair_text (flow_text depth) p ++ rest ≡ quoted (name_of p) ++ (58 ∷ 32 ∷ (v ++ rest)) =
+    append_assoc (quoted (name_of p)) (58 ∷ 32 ∷ v) rest in
     ap (pairs_from node n found) regrouped
-    ∙ ap (λ (o : Outcome (List ℕ)). o >>= λ key. (value_of node key.1 >>= λ value. after_pair (pairs node n) (found ++ pair key.0 value.0 ∷ []) (spaced value.1))) (key_read found (name_of p) (58 ∷ 32 ∷ (v ++ rest)) new)
-    ∙ ap (λ (o : Outcome Yaml). o >>= λ value. after_pair (pairs node n) (found ++ pair (name_of p) value.0 ∷ []) (spaced value.1)) (value_read depth (tree.value_of p) rest r)
-    ∙ ap (λ (w : List Pair). after_pair (pairs node n) w (spaced rest)) (one_more found p)
-
-quoted_start : (text rest : List ℕ) → IsStarted (quoted text ++ rest)
-quoted_start text rest = record { first = 34; others = (all_escaped text ++ 34 ∷ []) ++ rest; parts = refl; starts = refl }
+    ∙ ap (λ (o : Outcome (List ℕ)). o >>= λ key. (value_of node key.1 >>= λ value. after (found ++ pair key.0 value.0 ∷ []) value.1))
+    (key_read found (name_of p) (58 ∷ 32 ∷ (v ++ rest)) new)
+    ∙ ap (λ (o : Outcome Yaml). o >>= λ value. after (found ++ pair (name_of p) value.0 ∷ []) value.1) (value_read depth (tree.value_of p) rest r)
+    ∙ ap (λ (w : List Pair). after w rest) (one_more found p)
 
 pairs_start : (depth : ℕ) (p : Pair) (ps : List Pair) (rest : Text) → IsStarted (pairs_text depth (p ∷ ps) ++ rest)
 unfolding with_commas
@@ -161,7 +173,8 @@ pairs_read : (depth : ℕ) (ps : List Pair) (n : ℕ) (found : List Pair) (t res
     → spaced t ≡ pairs_text depth ps ++ 125 ∷ rest → pairs (inline depth true) (suc n) found t ≡ Ok (Map (found ++ ps), rest)
 unfolding with_commas
 pairs_read depth [] n found t rest all le e =
-    pairs_turn (inline depth true) n found t ∙ ap (pairs_from (inline depth true) n found) e ∙ ap (λ (w : List Pair). Ok (Map w, rest)) (sym (append-nil found))
+    pairs_turn (inline depth true) n found t ∙ ap (pairs_from (inline depth true) n found) e
+    ∙ ap (λ (w : List Pair). Ok (Map w, rest)) (sym (append-nil found))
 pairs_read depth (p ∷ []) n found t rest all le e =
     pairs_turn (inline depth true) n found t ∙ ap (pairs_from (inline depth true) n found) e ∙ one_pair depth n found p (125 ∷ rest) all.0 all.1
     ∙ ap (after_pair (pairs (inline depth true) n) (found ++ p ∷ [])) (spaced_mark rest).2
@@ -169,11 +182,13 @@ pairs_read depth (p ∷ q ∷ ps) zero found t rest all le e = absurd (omega ari
 pairs_read depth (p ∷ q ∷ ps) (suc n) found t rest all le e =
     let more = pairs_text depth (q ∷ ps) ++ 125 ∷ rest in
     let one = pair_text (flow_text depth) p in
-    let regrouped : pairs_text depth (p ∷ q ∷ ps) ++ 125 ∷ rest ≡ one ++ (44 ∷ 32 ∷ more) = append_assoc one (44 ∷ 32 ∷ pairs_text depth (q ∷ ps)) (125 ∷ rest) in
+    let regrouped : pairs_text depth (p ∷ q ∷ ps) ++ 125 ∷ rest ≡ one ++ (44 ∷ 32 ∷ more) =
+    append_assoc one (44 ∷ 32 ∷ pairs_text depth (q ∷ ps)) (125 ∷ rest) in
     pairs_turn (inline depth true) (suc n) found t ∙ ap (pairs_from (inline depth true) (suc n) found) (e ∙ regrouped)
     ∙ one_pair depth (suc n) found p (44 ∷ 32 ∷ more) all.0 all.1
     ∙ ap (after_pair (pairs (inline depth true) (suc n)) (found ++ p ∷ [])) (spaced_mark (32 ∷ more)).1
-    ∙ pairs_read depth (q ∷ ps) n (found ++ p ∷ []) (32 ∷ more) rest all.2 (omega arith) (kept more (pairs_start depth q ps (125 ∷ rest))).spaced_space
+    ∙ pairs_read depth (q ∷ ps) n (found ++ p ∷ []) (32 ∷ more) rest all.2 (omega arith)
+    (kept more (pairs_start depth q ps (125 ∷ rest))).spaced_space
     ∙ ap (λ (k : List Pair). Ok (Map k, rest)) (append_assoc found (p ∷ []) (q ∷ ps))
 
 pairs_long : (depth : ℕ) (ps : List Pair) → length ps ≤ length (pairs_text depth ps)
@@ -214,16 +229,22 @@ at_scalar depth y text e s = record {
   started = record { first = 34; others = all_escaped text ++ 34 ∷ []; parts = e; starts = refl };
 }
 
-at_seq : (depth : ℕ) (y : Yaml) (ys : List Yaml) → flow_text (suc depth) y ≡ 91 ∷ (items_text depth ys ++ 93 ∷ []) → Seq ys ≡ y → Each (IsInline depth) ys → IsInline (suc depth) y
+at_seq : (depth : ℕ) (y : Yaml) (ys : List Yaml) → flow_text (suc depth) y ≡ 91 ∷ (items_text depth ys ++ 93 ∷ []) → Seq ys ≡ y
+    → Each (IsInline depth) ys → IsInline (suc depth) y
 at_seq depth y ys e s all = record {
-  again = λ flow rest. ap (λ (t : List ℕ). inline (suc depth) flow (t ++ rest)) e ∙ sequence_read depth flow ys rest all ∙ ap (λ (z : Yaml). Ok (z, rest)) s;
+  again =
+      λ flow rest. ap (λ (t : List ℕ). inline (suc depth) flow (t ++ rest)) e ∙ sequence_read depth flow ys rest all
+      ∙ ap (λ (z : Yaml). Ok (z, rest)) s;
   started = record { first = 91; others = items_text depth ys ++ 93 ∷ []; parts = e; starts = refl };
 }
 
-at_map : (depth : ℕ) (y : Yaml) (ps : List Pair) → flow_text (suc depth) y ≡ 123 ∷ (pairs_text depth ps ++ 125 ∷ []) → Map ps ≡ y → NewPairs (IsInline depth) [] ps
+at_map : (depth : ℕ) (y : Yaml) (ps : List Pair) → flow_text (suc depth) y ≡ 123 ∷ (pairs_text depth ps ++ 125 ∷ []) → Map ps ≡ y
+    → NewPairs (IsInline depth) [] ps
     → IsInline (suc depth) y
 at_map depth y ps e s all = record {
-  again = λ flow rest. ap (λ (t : List ℕ). inline (suc depth) flow (t ++ rest)) e ∙ mapping_read depth flow ps rest all ∙ ap (λ (z : Yaml). Ok (z, rest)) s;
+  again =
+      λ flow rest. ap (λ (t : List ℕ). inline (suc depth) flow (t ++ rest)) e ∙ mapping_read depth flow ps rest all
+      ∙ ap (λ (z : Yaml). Ok (z, rest)) s;
   started = record { first = 123; others = pairs_text depth ps ++ 125 ∷ []; parts = e; starts = refl };
 }
 
@@ -231,7 +252,8 @@ each_inline : (depth : ℕ) (ys : List Yaml) → ((y : Yaml) → IsTree depth y 
 each_inline depth [] f each = tt
 each_inline depth (y ∷ ys) f each = (f y each.0, each_inline depth ys f each.1)
 
-pub pairs_inline : (depth : ℕ) (found ps : List Pair) → ((y : Yaml) → IsTree depth y → IsInline depth y) → NewPairs (IsTree depth) found ps → NewPairs (IsInline depth) found ps
+pub pairs_inline : (depth : ℕ) (found ps : List Pair) → ((y : Yaml) → IsTree depth y → IsInline depth y) → NewPairs (IsTree depth) found ps
+    → NewPairs (IsInline depth) found ps
 pairs_inline depth found [] f each = tt
 pairs_inline depth found (p ∷ ps) f each = (f (tree.value_of p) each.0, each.1, pairs_inline depth (found ++ p ∷ []) ps f each.2)
 
@@ -253,9 +275,11 @@ names_new P found (p ∷ ps) each distinct fresh =
     later : (q : List ℕ) → In q (map name_of ps) → has_name q (found ++ p ∷ []) ≡ false
     later q i =
         ap (has_name q) (sym (one_more found p)) ∙ has_name-append q (name_of p) (tree.value_of p) found
-        ∙ ap (λ (b : Bool). b || has_name q found) (apart q (name_of p) (λ same. distinct.0 (subst (λ (n : List ℕ). In n (map name_of ps)) same i))) ∙ fresh q (inr i)
+        ∙ ap (λ (b : Bool). b || has_name q found) (apart q (name_of p) (λ same. distinct.0 (subst (λ (n : List ℕ). In n (map name_of ps)) same i)))
+        ∙ fresh q (inr i)
 
-pub new_pairs : (P : Yaml → Type 0) (ps : List Pair) → Each (λ p. IsUtf8 (name_of p) × P (tree.value_of p)) ps × IsDistinct (map name_of ps) → NewPairs P [] ps
+pub new_pairs : (P : Yaml → Type 0) (ps : List Pair) → Each (λ p. IsUtf8 (name_of p) × P (tree.value_of p)) ps × IsDistinct (map name_of ps)
+    → NewPairs P [] ps
 unfolding has_name
 new_pairs P ps h = names_new P [] ps h.0 h.1 (λ q i. refl)
 
@@ -272,4 +296,5 @@ tree_inline (suc depth) y h = go (tree_inline depth) (out-Yaml y) refl h
     go : ((z : Yaml) → IsTree depth z → IsInline depth z) → (l : Layer) → out-Yaml y ≡ l → IsNode (IsTree depth) l → IsInline (suc depth) y
     go f (Yaml-F.Scalar text) e k = at_scalar (suc depth) y text (ap (layer_text (flow_text depth)) e) (scalar_is y text e)
     go f (Yaml-F.Seq ys) e k = at_seq depth y ys (ap (layer_text (flow_text depth)) e) (seq_is y ys e) (each_inline depth ys f k)
-    go f (Yaml-F.Map ps) e k = at_map depth y ps (ap (layer_text (flow_text depth)) e) (map_is y ps e) (pairs_inline depth [] ps f (new_pairs (IsTree depth) ps k))
+    go f (Yaml-F.Map ps) e k =
+        at_map depth y ps (ap (layer_text (flow_text depth)) e) (map_is y ps e) (pairs_inline depth [] ps f (new_pairs (IsTree depth) ps k))

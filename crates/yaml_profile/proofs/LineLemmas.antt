@@ -50,7 +50,8 @@ and_false false = refl
 pub no_marker : (column : ℕ) (t : Text) → IsStarted t → without_marker (Some (column, t)) ≡ Ok (Some (column, t))
 no_marker column t s =
     at_start (λ (w : Text). without_marker (Some (column, w)) ≡ Ok (Some (column, w))) t s
-    (λ w. choice (34 ∷ w) (and_false (column == 0))) (λ w. choice (91 ∷ w) (and_false (column == 0))) (λ w. choice (123 ∷ w) (and_false (column == 0)))
+    (λ w. choice (34 ∷ w) (and_false (column == 0))) (λ w. choice (91 ∷ w) (and_false (column == 0)))
+    (λ w. choice (123 ∷ w) (and_false (column == 0)))
   where
     choice : (w : Text) → is_marker (column, w) ≡ false → without_marker (Some (column, w)) ≡ Ok (Some (column, w))
     choice w e = ap (λ (c : Bool). cond c (refuse (LeftOut Documents) w) (Ok (Some (column, w)))) e
@@ -89,10 +90,12 @@ not_ended : (t : Text) → IsStarted t → ends_node (32 ∷ t) ≡ false
 unfolding past_white
 not_ended t s = at_start (λ (w : Text). ends_node (32 ∷ w) ≡ false) t s (λ w. refl) (λ w. refl) (λ w. refl)
 
-pub alone_read : (depth : ℕ) (y : Yaml) (rest : Text) (next : Option Line) → IsInline depth y → first_line rest ≡ Ok next → alone depth (flow_text depth y ++ 10 ∷ rest) ≡ Ok (y, next)
+pub alone_read : (depth : ℕ) (y : Yaml) (rest : Text) (next : Option Line) → IsInline depth y → first_line rest ≡ Ok next
+    → alone depth (flow_text depth y ++ 10 ∷ rest) ≡ Ok (y, next)
 unfolding alone
 alone_read depth y rest next r e =
-    ap (λ (o : Outcome Yaml). o >>= λ node. cond (ends_node node.1) (next_line node.1 >>= λ l. Ok (node.0, l)) (refuse Syntax (past_white node.1))) (r.again false (10 ∷ rest))
+    ap (λ (o : Outcome Yaml). o >>= λ node. cond (ends_node node.1) (next_line node.1 >>= λ l. Ok (node.0, l)) (refuse Syntax (past_white node.1)))
+    (r.again false (10 ∷ rest))
     ∙ ap (λ (c : Bool). cond c (next_line (10 ∷ rest) >>= λ l. Ok (y, l)) (refuse Syntax (past_white (10 ∷ rest)))) (line_ended rest)
     ∙ ap (λ (o : Lines). o >>= λ l. Ok (y, l)) (next_is_first rest ∙ e)
 
@@ -158,7 +161,8 @@ pub record IsBlock (depth spaces : ℕ) (p : Pair) (ps : List Pair) (rest : Text
   pub again : block depth false (spaces, text) ≡ Ok (Map (p ∷ ps), next)
 
 abbrev BlocksRead : ℕ → Type 0
-BlocksRead depth = (spaces : ℕ) (p : Pair) (ps : List Pair) (rest : Text) (next : Option Line) → IsTree depth (Map (p ∷ ps)) → Follows spaces rest next
+BlocksRead depth =
+    (spaces : ℕ) (p : Pair) (ps : List Pair) (rest : Text) (next : Option Line) → IsTree depth (Map (p ∷ ps)) → Follows spaces rest next
     → IsBlock depth spaces p ps rest next
 
 value_read : (depth spaces : ℕ) (v : Yaml) (rest : Text) (next : Option Line) → BlocksRead depth → IsTree depth v → Follows (spaces + 2) rest next
@@ -179,7 +183,8 @@ value_read depth spaces v rest next below h f = go (out-Yaml v) refl
         let same = map_is v (q ∷ qs) e in
         let b = below (spaces + 2) q qs rest next (subst (λ (y : Yaml). IsTree depth y) (sym same) h) f in
         ap reads e
-        ∙ below_line (block depth) depth spaces (spaces + 2) b.text (map_lines depth (spaces + 2) (q ∷ qs) ++ rest) (omega arith) (ap first_line b.parts ∙ first_read (spaces + 2) b.text b.started)
+        ∙ below_line (block depth) depth spaces (spaces + 2) b.text (map_lines depth (spaces + 2) (q ∷ qs) ++ rest) (omega arith)
+        (ap first_line b.parts ∙ first_read (spaces + 2) b.text b.started)
         ∙ b.again ∙ ap (λ (y : Yaml). Ok (y, next)) same
 
 value_gap : (depth spaces : ℕ) (v : Yaml) (rest : Text) → is_gap (value_lines depth spaces v ++ rest) ≡ true
@@ -198,11 +203,14 @@ key_read : (name : List ℕ) (t : Text) → is_gap t ≡ true → entry_key (quo
 unfolding entry_key past_white
 key_read name t gap =
     let whole = quoted name ++ 58 ∷ t in
-    let colon : List ℕ × Text → Outcome (List ℕ) = λ key. cond (sees 58 (past_white key.1) && is_gap (drop 1 (past_white key.1))) (Ok (key.0, drop 1 (past_white key.1))) (refuse Syntax whole) in
+    let colon : List ℕ × Text → Outcome (List ℕ) =
+    λ key. cond (sees 58 (past_white key.1) && is_gap (drop 1 (past_white key.1))) (Ok (key.0, drop 1 (past_white key.1))) (refuse Syntax whole) in
     ap (λ (o : Outcome (List ℕ)). o >>= colon) (scalar_read false name (58 ∷ t)) ∙ if_true (is_gap t) (Ok (name, t)) (refuse Syntax whole) gap
 
-pair_key : (depth spaces : ℕ) (p : Pair) (more : Text) → entry_key (from_name depth spaces p more) ≡ Ok (name_of p, value_lines depth spaces (tree.value_of p) ++ more)
-pair_key depth spaces p more = key_read (name_of p) (value_lines depth spaces (tree.value_of p) ++ more) (value_gap depth spaces (tree.value_of p) more)
+pair_key : (depth spaces : ℕ) (p : Pair) (more : Text)
+    → entry_key (from_name depth spaces p more) ≡ Ok (name_of p, value_lines depth spaces (tree.value_of p) ++ more)
+pair_key depth spaces p more =
+    key_read (name_of p) (value_lines depth spaces (tree.value_of p) ++ more) (value_gap depth spaces (tree.value_of p) more)
 
 -- an entry whose name is new and whose value is read
 one_entry : (depth spaces n : ℕ) (found : List Pair) (p : Pair) (more : Text) (next : Option Line) → has_name (name_of p) found ≡ false
@@ -215,13 +223,15 @@ one_entry depth spaces n found p more next new read =
     let w = value_lines depth spaces (tree.value_of p) ++ more in
     let named : List ℕ × Text → Outcome (List ℕ) = λ key. cond (has_name key.0 found) (refuse RepeatedKey t) (Ok key) in
     let after : List Pair → Option Line → Blocks = λ now. after_entry (Map now) spaces (λ l. entries (block depth) depth spaces n now l.1) in
-    let valued : List ℕ × Text → Blocks = λ key. map_value (block depth) depth spaces key.1 >>= λ value. after (found ++ pair key.0 value.0 ∷ []) value.1 in
+    let valued : List ℕ × Text → Blocks =
+    λ key. map_value (block depth) depth spaces key.1 >>= λ value. after (found ++ pair key.0 value.0 ∷ []) value.1 in
     ap (λ (o : Outcome (List ℕ)). o >>= named >>= valued) (pair_key depth spaces p more)
     ∙ ap (λ (o : Outcome (List ℕ)). o >>= valued) (if_false (has_name (name_of p) found) (refuse RepeatedKey t) (Ok (name_of p, w)) new)
     ∙ ap (λ (o : Blocks). o >>= λ value. after (found ++ pair (name_of p) value.0 ∷ []) value.1) read
     ∙ ap (λ (now : List Pair). after now next) (one_more found p)
 
-entry_ends : (whole : Yaml) (column : ℕ) (go_on : Line → Blocks) (next : Option Line) → IsLeft column next → after_entry whole column go_on next ≡ Ok (whole, next)
+entry_ends : (whole : Yaml) (column : ℕ) (go_on : Line → Blocks) (next : Option Line) → IsLeft column next
+    → after_entry whole column go_on next ≡ Ok (whole, next)
 entry_ends whole column go_on None h = refl
 entry_ends whole column go_on (Some l) h =
     let left : nat_lt l.0 column ≡ true = grind (arith, nat_tests) in
@@ -234,19 +244,23 @@ entry_goes_on whole column go_on t =
 
 entries_read : (depth spaces : ℕ) (p : Pair) (ps : List Pair) (n : ℕ) (found : List Pair) (rest : Text) (next : Option Line) → BlocksRead depth
     → NewPairs (IsTree depth) found (p ∷ ps) → length ps ≤ n → Follows spaces rest next
-    → entries (block depth) depth spaces (suc n) found (from_name depth spaces p (pairs_lines depth spaces ps ++ rest)) ≡ Ok (Map (found ++ p ∷ ps), next)
+    → entries (block depth) depth spaces (suc n) found (from_name depth spaces p (pairs_lines depth spaces ps ++ rest))
+    ≡ Ok (Map (found ++ p ∷ ps), next)
 entries_read depth spaces p [] n found rest next below each le f =
-    one_entry depth spaces n found p rest next each.1 (value_read depth spaces (tree.value_of p) rest next below each.0 (follows_more spaces rest next f))
+    one_entry depth spaces n found p rest next each.1
+    (value_read depth spaces (tree.value_of p) rest next below each.0 (follows_more spaces rest next f))
     ∙ entry_ends (Map (found ++ p ∷ [])) spaces _ next f.left
 entries_read depth spaces p (q ∷ ps) zero found rest next below each le f = absurd (omega arith)
 entries_read depth spaces p (q ∷ ps) (suc n) found rest next below each le f =
     let more = pairs_lines depth spaces (q ∷ ps) ++ rest in
     let t = from_name depth spaces q (pairs_lines depth spaces ps ++ rest) in
     let line : Follows (spaces + 2) more (Some (spaces, t)) = record {
-      read = ap first_line (lines_from depth spaces q ps rest) ∙ first_read spaces t (name_started depth spaces q (pairs_lines depth spaces ps ++ rest));
+      read =
+          ap first_line (lines_from depth spaces q ps rest) ∙ first_read spaces t (name_started depth spaces q (pairs_lines depth spaces ps ++ rest));
       left = omega arith;
     } in
-    one_entry depth spaces (suc n) found p more (Some (spaces, t)) each.1 (value_read depth spaces (tree.value_of p) more (Some (spaces, t)) below each.0 line)
+    one_entry depth spaces (suc n) found p more (Some (spaces, t)) each.1
+    (value_read depth spaces (tree.value_of p) more (Some (spaces, t)) below each.0 line)
     ∙ entry_goes_on (Map (found ++ p ∷ [])) spaces (λ l. entries (block depth) depth spaces (suc n) (found ++ p ∷ []) l.1) t
     ∙ entries_read depth spaces q ps n (found ++ p ∷ []) rest next below each.2 (omega arith) f
     ∙ ap (λ (w : List Pair). Ok (Map w, next)) (append_assoc found (p ∷ []) (q ∷ ps))
@@ -259,7 +273,8 @@ lines_long depth spaces (p ∷ ps) =
     let value = value_lines depth spaces (tree.value_of p) in
     let parts : pairs_lines depth spaces (p ∷ ps) ≡ one ++ pairs_lines depth spaces ps = refl in
     let more : one ≡ named ++ 58 ∷ value = refl in
-    omega (arith, ap length parts, ap length more, length-append one (pairs_lines depth spaces ps), length-append named (58 ∷ value), lines_long depth spaces ps)
+    let longer = length-append one (pairs_lines depth spaces ps) in
+    omega (arith, ap length parts, ap length more, longer, length-append named (58 ∷ value), lines_long depth spaces ps)
 
 mapping_pairs : (depth : ℕ) (ps : List Pair) → IsTree (suc depth) (Map ps) → NewPairs (IsTree depth) [] ps
 unfolding IsTree
@@ -275,13 +290,16 @@ blocks_read zero spaces p ps rest next h f = absurd (no_mapping (p ∷ ps) h)
 blocks_read (suc depth) spaces p ps rest next h f =
     let more = pairs_lines depth spaces ps ++ rest in
     let t = from_name depth spaces p more in
-    let w = quoted (name_of p) in
-    let v = 58 ∷ (value_lines depth spaces (tree.value_of p) ++ more) in
+    let name = quoted (name_of p) in
+    let value = value_lines depth spaces (tree.value_of p) in
+    let lines = length-append (pairs_lines depth spaces ps) rest in
     let long : length ps ≤ length t =
-    omega (arith, length-append w v, length-append (value_lines depth spaces (tree.value_of p)) more, length-append (pairs_lines depth spaces ps) rest, lines_long depth spaces ps) in
+    omega (arith, length-append name (58 ∷ (value ++ more)), length-append value more, lines, lines_long depth spaces ps) in
     record {
       text = t;
       parts = lines_from depth spaces p ps rest;
       started = name_started depth spaces p more;
-      again = if_true (has_key t) _ _ (ap is_found (pair_key depth spaces p more)) ∙ entries_read depth spaces p ps (length t) [] rest next (blocks_read depth) (mapping_pairs depth (p ∷ ps) h) long f;
+      again =
+          if_true (has_key t) _ _ (ap is_found (pair_key depth spaces p more))
+          ∙ entries_read depth spaces p ps (length t) [] rest next (blocks_read depth) (mapping_pairs depth (p ∷ ps) h) long f;
     }

@@ -48,7 +48,9 @@ quoted_alone : (text : List ℕ) → NoKey (quoted text)
 unfolding entry_key past_white
 quoted_alone text =
     let whole = quoted text ++ 10 ∷ [] in
-    ap (λ (o : Outcome (List ℕ)). is_found {A = List ℕ × Text} (o >>= λ key. cond (sees 58 (past_white key.1) && is_gap (drop 1 (past_white key.1))) (Ok (key.0, drop 1 (past_white key.1))) (refuse Syntax whole))) (scalar_read false text (10 ∷ []))
+    let colon : List ℕ × Text → Outcome (List ℕ) =
+    λ key. cond (sees 58 (past_white key.1) && is_gap (drop 1 (past_white key.1))) (Ok (key.0, drop 1 (past_white key.1))) (refuse Syntax whole) in
+    ap (λ (o : Outcome (List ℕ)). is_found (o >>= colon)) (scalar_read false text (10 ∷ []))
 
 layer_alone : (depth : ℕ) (l : Layer) → NoKey (layer_text (flow_text depth) l)
 unfolding entry_key scalar plain
@@ -62,7 +64,9 @@ flow_alone depth y = layer_alone depth (out-Yaml y)
 
 block_alone : (depth : ℕ) (t : Text) → IsStarted t → has_key t ≡ false → block (suc depth) false (0, t) ≡ alone (suc depth) t
 unfolding block
-block_alone depth t s none = at_start (λ (w : Text). has_key w ≡ false → block (suc depth) false (0, w) ≡ alone (suc depth) w) t s (λ w e. if_false _ _ _ e) (λ w e. if_false _ _ _ e) (λ w e. if_false _ _ _ e) none
+block_alone depth t s none =
+    at_start (λ (w : Text). has_key w ≡ false → block (suc depth) false (0, w) ≡ alone (suc depth) w) t s (λ w e. if_false _ _ _ e)
+    (λ w e. if_false _ _ _ e) (λ w e. if_false _ _ _ e) none
 
 one_line : (y : Yaml) → IsTree 64 y → document (flow_text 64 y ++ 10 ∷ []) ≡ Ok y
 one_line y h =

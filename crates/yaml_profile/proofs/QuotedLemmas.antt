@@ -22,7 +22,8 @@ split_byte b = omega arith
 
 hex_step : (whole : Text) (n number b d : ℕ) (t : Text) → hex_value b ≡ Some d → hex whole (suc n) number (b ∷ t) ≡ hex whole n (16 * number + d) t
 unfolding hex
-hex_step whole n number b d t e = ap (λ (o : Option ℕ). elim o as (λ _. Outcome ℕ) [ Some x ↦ hex whole n (16 * number + x) t | None ↦ refuse Syntax whole ]) e
+hex_step whole n number b d t e =
+    ap (λ (o : Option ℕ). elim o as (λ _. Outcome ℕ) [ Some x ↦ hex whole n (16 * number + x) t | None ↦ refuse Syntax whole ]) e
 
 hex_end : (whole : Text) (number : ℕ) (t : Text) → is_scalar_value number ≡ true → hex whole 0 number t ≡ Ok (number, t)
 unfolding hex
@@ -59,13 +60,15 @@ at_tab : (n : ℕ) (found : List ℕ) (more : Text) → IsByte 9 (92 ∷ 116 ∷
 unfolding double escape
 at_tab n found more = character n found more 9 (omega arith)
 
-at_control : (n : ℕ) (found : List ℕ) (more : Text) (b : ℕ) → b < 128 → IsByte b (92 ∷ 120 ∷ digit_char (b / 16) ∷ digit_char (b % 16) ∷ []) n found more
+at_control : (n : ℕ) (found : List ℕ) (more : Text) (b : ℕ) → b < 128
+    → IsByte b (92 ∷ 120 ∷ digit_char (b / 16) ∷ digit_char (b % 16) ∷ []) n found more
 unfolding double escape
 at_control n found more b h =
     let e = hex_read (92 ∷ 120 ∷ digit_char (b / 16) ∷ digit_char (b % 16) ∷ more) b more h in
     rw (e, encode_ascii b h) refl
 
-at_other : (n : ℕ) (found : List ℕ) (more : Text) (b : ℕ) → (b == 34) ≡ false → (b == 92) ≡ false → (b == 10) ≡ false → (b == 13) ≡ false → IsByte b (b ∷ []) n found more
+at_other : (n : ℕ) (found : List ℕ) (more : Text) (b : ℕ) → (b == 34) ≡ false → (b == 92) ≡ false → (b == 10) ≡ false → (b == 13) ≡ false
+    → IsByte b (b ∷ []) n found more
 unfolding double
 at_other n found more b q s l r = rw (q, s, l, r) refl
 
@@ -90,7 +93,8 @@ marked n found more b h = go (b == 92) refl h
     go true e k = at_number (λ (c : ℕ). IsByte c (92 ∷ c ∷ []) n found more) b 92 e (at_backslash n found more)
     go false e k = at_number (λ (c : ℕ). IsByte c (92 ∷ c ∷ []) n found more) b 34 k (at_quote n found more)
 
-byte_read : (n : ℕ) (found : List ℕ) (more : Text) (b : ℕ) (q l t c : Bool) → (b == 92 || b == 34) ≡ q → (b == 10) ≡ l → (b == 9) ≡ t → (nat_lt b 32 || b == 127) ≡ c
+byte_read : (n : ℕ) (found : List ℕ) (more : Text) (b : ℕ) (q l t c : Bool) → (b == 92 || b == 34) ≡ q → (b == 10) ≡ l → (b == 9) ≡ t
+    → (nat_lt b 32 || b == 127) ≡ c
     → IsByte b (escaped_by b q l t c) n found more
 byte_read n found more b true l t c eq el et ec = marked n found more b eq
 byte_read n found more b false true t c eq el et ec = at_number (λ (w : ℕ). IsByte w (92 ∷ 110 ∷ []) n found more) b 10 el (at_line_end n found more)
@@ -102,14 +106,16 @@ byte_read n found more b false false false false eq el et ec =
 
 -- ---- a text
 
-all_read : (text : List ℕ) (n : ℕ) (found : List ℕ) (rest : Text) → length text ≤ n → double (suc n) found (all_escaped text ++ 34 ∷ rest) ≡ Ok (found ++ text, rest)
+all_read : (text : List ℕ) (n : ℕ) (found : List ℕ) (rest : Text) → length text ≤ n
+    → double (suc n) found (all_escaped text ++ 34 ∷ rest) ≡ Ok (found ++ text, rest)
 unfolding double all_escaped
 all_read [] n found rest le = ap (λ (x : List ℕ). Ok (x, rest)) (sym (append-nil found))
 all_read (b ∷ text) zero found rest le = absurd (omega arith)
 all_read (b ∷ text) (suc n) found rest le =
     let one = byte_read (suc n) found (all_escaped text ++ 34 ∷ rest) b _ _ _ _ refl refl refl refl in
     let more = all_read text n (found ++ b ∷ []) rest (omega arith) in
-    let regrouped : (escaped b ++ all_escaped text) ++ 34 ∷ rest ≡ escaped b ++ (all_escaped text ++ 34 ∷ rest) = append_assoc (escaped b) (all_escaped text) (34 ∷ rest) in
+    let regrouped : (escaped b ++ all_escaped text) ++ 34 ∷ rest ≡ escaped b ++ (all_escaped text ++ 34 ∷ rest) =
+    append_assoc (escaped b) (all_escaped text) (34 ∷ rest) in
     ap (double (suc (suc n)) found) regrouped ∙ one ∙ more ∙ ap (λ (x : List ℕ). Ok (x, rest)) (append_assoc found (b ∷ []) text)
 
 byte_long : (b : ℕ) (q l t c : Bool) → 1 ≤ length (escaped_by b q l t c)
@@ -122,7 +128,9 @@ byte_long b false false false false = omega arith
 all_long : (text : List ℕ) → length text ≤ length (all_escaped text)
 unfolding all_escaped
 all_long [] = omega arith
-all_long (b ∷ text) = omega (arith, length-append (escaped b) (all_escaped text), byte_long b (b == 92 || b == 34) (b == 10) (b == 9) (nat_lt b 32 || b == 127), all_long text)
+all_long (b ∷ text) =
+    let one = byte_long b (b == 92 || b == 34) (b == 10) (b == 9) (nat_lt b 32 || b == 127) in
+    omega (arith, length-append (escaped b) (all_escaped text), one, all_long text)
 
 quoted_read : (text : List ℕ) (rest : Text) → double_quoted (all_escaped text ++ 34 ∷ rest) ≡ Ok (text, rest)
 quoted_read text rest = all_read text _ [] rest (omega (arith, length-append (all_escaped text) (34 ∷ rest), all_long text))

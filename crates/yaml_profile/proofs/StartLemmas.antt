@@ -4,6 +4,7 @@ use Rattle.std.proofs.lemmas.Bool.{eqb-true}
 use Rattle.yaml_profile.specs.Text.{Text, sees, past_white, past_space, spaced}
 use Rattle.yaml_profile.specs.Flow.{left_out}
 
+-- whether a node as it is written begins with this byte
 abbrev pub is_start : ℕ → Bool
 is_start b = b == 34 || (b == 91 || b == 123)
 
@@ -14,7 +15,7 @@ pub record IsStarted (text : Text) : Type 0 where
   pub parts : text ≡ first ∷ others
   pub starts : is_start first ≡ true
 
-pub start_cases : (P : ℕ → Type 0) (b : ℕ) → P 34 → P 91 → P 123 → is_start b ≡ true → P b
+start_cases : (P : ℕ → Type 0) (b : ℕ) → P 34 → P 91 → P 123 → is_start b ≡ true → P b
 start_cases P b p q r h = go (b == 34) (b == 91) (b == 123) refl refl refl h
   where
     go : (x y z : Bool) → (b == 34) ≡ x → (b == 91) ≡ y → (b == 123) ≡ z → (x || (y || z)) ≡ true → P b
@@ -24,13 +25,14 @@ start_cases P b p q r h = go (b == 34) (b == 91) (b == 123) refl refl refl h
     go false false false ex ey ez k = absurd cc
 
 -- what holds of each text after such a byte holds of the text
-pub at_start : (P : Text → Type 0) (text : Text) → IsStarted text → ((t : Text) → P (34 ∷ t)) → ((t : Text) → P (91 ∷ t)) → ((t : Text) → P (123 ∷ t)) → P text
+pub at_start : (P : Text → Type 0) (text : Text) → IsStarted text → ((t : Text) → P (34 ∷ t)) → ((t : Text) → P (91 ∷ t)) → ((t : Text) → P (123 ∷ t))
+    → P text
 at_start P text s p q r = subst P (sym s.parts) (start_cases (λ (c : ℕ). P (c ∷ s.others)) s.first (p s.others) (q s.others) (r s.others) s.starts)
 
 pub started_more : (text rest : Text) → IsStarted text → IsStarted (text ++ rest)
 started_more text rest s = record { first = s.first; others = s.others ++ rest; parts = ap (λ (w : Text). w ++ rest) s.parts; starts = s.starts }
 
--- what white or a space before such a text leaves
+-- passing white leaves such a text whole
 pub record IsKept (text : Text) : Type 0 where
   pub spaced_self : spaced text ≡ text
   pub spaced_space : spaced (32 ∷ text) ≡ text
@@ -44,21 +46,21 @@ kept text s =
     (λ t. record { spaced_self = refl; spaced_space = refl; past_space = refl })
     (λ t. record { spaced_self = refl; spaced_space = refl; past_space = refl })
 
--- no byte that means something else stands at its start
-pub record IsNode (text : Text) : Type 0 where
+-- no mark after an item stands there, and nothing that the profile leaves out
+pub record StartsNode (text : Text) : Type 0 where
   pub no_comma : sees 44 text ≡ false
   pub no_bracket : sees 93 text ≡ false
   pub no_brace : sees 125 text ≡ false
   pub allowed : left_out text ≡ None
 
-pub node_start : (text : Text) → IsStarted text → IsNode text
+pub node_start : (text : Text) → IsStarted text → StartsNode text
 node_start text s =
-    at_start (λ (t : Text). IsNode t) text s
+    at_start (λ (t : Text). StartsNode t) text s
     (λ t. record { no_comma = refl; no_bracket = refl; no_brace = refl; allowed = refl })
     (λ t. record { no_comma = refl; no_bracket = refl; no_brace = refl; allowed = refl })
     (λ t. record { no_comma = refl; no_bracket = refl; no_brace = refl; allowed = refl })
 
--- marks of a flow collection after an item
+-- no white stands before a mark
 pub spaced_mark : (rest : Text) → (spaced (93 ∷ rest) ≡ 93 ∷ rest) × (spaced (44 ∷ rest) ≡ 44 ∷ rest) × (spaced (125 ∷ rest) ≡ 125 ∷ rest)
 unfolding past_space
 spaced_mark rest = (refl, refl, refl)
