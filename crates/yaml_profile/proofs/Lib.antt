@@ -15,3 +15,6 @@ pub mod InlineLemmas
 pub mod LineLemmas
 pub mod PrintedLemmas
 pub mod PrintedDocumentLemmas
+pub mod SpellsPartLemmas
+pub mod SpellsSpaceLemmas
+pub mod SpellsLineLemmas

@@ -6,3 +6,6 @@ pub mod Block
 pub mod Read
 pub mod Tree
 pub mod Print
+pub mod Space
+pub mod ScalarTexts
+pub mod Spells
