@@ -18,3 +18,4 @@ pub mod PrintedDocumentLemmas
 pub mod SpellsPartLemmas
 pub mod SpellsSpaceLemmas
 pub mod SpellsLineLemmas
+pub mod SpellsScalarLemmas
