@@ -19,3 +19,5 @@ pub mod SpellsPartLemmas
 pub mod SpellsSpaceLemmas
 pub mod SpellsLineLemmas
 pub mod SpellsScalarLemmas
+pub mod SpellsKeyLemmas
+pub mod SpellsFlowLemmas

@@ -285,6 +285,7 @@ pub record PlainText (flow : Bool) (t : Text) (x : List ℕ × Text) : Type 0 wh
   pub whole : t ≡ x.0 ++ x.1
   pub is_plain : IsPlain flow x.0 x.1
   pub colon : Colon flow x.1
+  pub full : IsFull x.0
 
 plain_over : (flow : Bool) (b : ℕ) (s rest : Text) (n : ℕ) → begins_plain flow (b ∷ (s ++ rest)) ≡ true → GoesOn flow false s rest → Colon flow rest → n ≡ suc (length s)
     → IfOk (plain_of (b ∷ (s ++ rest)) n) (PlainText flow (b ∷ (s ++ rest)))
@@ -295,7 +296,7 @@ plain_over flow b s rest n begins goes colon e =
     let Q : Text → Text → Type 0 = λ v r. IfOk (cond (has_forbidden v) (refuse Syntax (b ∷ (s ++ rest))) (Ok (v, r))) (PlainText flow (b ∷ (s ++ rest))) in
     subst P (sym e) (subst (λ v. Q v (drop (suc (length s)) (b ∷ (s ++ rest)))) (sym front) (subst (λ r. Q (b ∷ s) r) (sym back)
     (choose (PlainText flow (b ∷ (s ++ rest))) (has_forbidden (b ∷ s)) _ _ (λ _. tt)
-    (λ f. record { whole = refl; is_plain = record { begins = begins; goes_on = goes; allowed = f }; colon = colon }))))
+    (λ f. record { whole = refl; is_plain = record { begins = begins; goes_on = goes; allowed = f }; colon = colon; full = λ k. cc }))))
 
 plain_text : (flow : Bool) (t : Text) → IfOk (plain flow t) (PlainText flow t)
 unfolding plain

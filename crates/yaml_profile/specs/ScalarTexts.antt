@@ -77,5 +77,5 @@ IsScalar flow value text = IsQuoted value text ⊎ ((text ≡ value) × IsPlain 
 -- a key with its colon, where this is the text of its value. After a plain key a gap or a flow mark follows the colon
 pub data IsKey (flow : Bool) (name key value : Text) : Type 0 where
   quoted : (IsQuoted name and_then IsWhite and_then Is 58) key → IsKey flow name key value
-  plain : (white : Text) → IsWhite white → IsPlain flow name (white ++ 58 ∷ []) → key ≡ name ++ white ++ 58 ∷ [] → closes flow value ≡ true
+  plain : (white : Text) → IsWhite white → IsPlain flow name (white ++ 58 ∷ []) → key ≡ name ++ (white ++ 58 ∷ []) → closes flow value ≡ true
       → IsKey flow name key value
