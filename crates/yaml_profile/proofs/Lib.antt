@@ -21,3 +21,4 @@ pub mod SpellsLineLemmas
 pub mod SpellsScalarLemmas
 pub mod SpellsKeyLemmas
 pub mod SpellsFlowLemmas
+pub mod SpellsBlockLemmas

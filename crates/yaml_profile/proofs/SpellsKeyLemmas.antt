@@ -24,7 +24,7 @@ line_weaker b s r f e =
     either (b == 10) (b == 13 && sees 10 s) (λ g. left_true (b == 10) _ g)
     (λ g. right_true (b == 10) _ (both_true (b == 13) _ (first_of_both (b == 13) (sees 10 s) g) (f (second_of_both (b == 13) (sees 10 s) g)))) e
 
-gap_weaker : (b : ℕ) (s r : Text) → (sees 10 s ≡ true → sees 10 r ≡ true) → is_gap (b ∷ s) ≡ true → is_gap (b ∷ r) ≡ true
+pub gap_weaker : (b : ℕ) (s r : Text) → (sees 10 s ≡ true → sees 10 r ≡ true) → is_gap (b ∷ s) ≡ true → is_gap (b ∷ r) ≡ true
 gap_weaker b s r f e =
     either (is_white b) (ends_line (b ∷ s)) (λ g. left_true (is_white b) _ g) (λ g. right_true (is_white b) _ (line_weaker b s r f g)) e
 
@@ -52,7 +52,7 @@ ends_weaker flow white b s r w e =
     (λ f. right_true (ends_line (b ∷ r) || (b == 58 && closes flow r) || mark) hash f) e
 
 -- what implies a false test is false
-refuted : (x y : Bool) → (x ≡ true → y ≡ true) → y ≡ false → x ≡ false
+pub refuted : (x y : Bool) → (x ≡ true → y ≡ true) → y ≡ false → x ≡ false
 refuted true y f e = absurd (differ (f refl) e)
 refuted false y f e = refl
 
@@ -93,7 +93,7 @@ plain_weaker flow (b ∷ v) s r full w h = record {
 weaker_none : (flow : Bool) (r : Text) → closes flow r ≡ true → Weaker flow [] r
 weaker_none flow r e = record { feed = λ f. absurd cc; close = λ f. e }
 
-feed_more : (s after : Text) → sees 10 s ≡ true → sees 10 (s ++ after) ≡ true
+pub feed_more : (s after : Text) → sees 10 s ≡ true → sees 10 (s ++ after) ≡ true
 feed_more [] after e = absurd cc
 feed_more (b ∷ s) after e = e
 

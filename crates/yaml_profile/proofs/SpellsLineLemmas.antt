@@ -146,7 +146,7 @@ node_ends (b ∷ t) e = go (is_white b) refl e
 -- ---- lines
 
 -- what stands before the next line, or before the text's end, from the start of a line
-abbrev Begun : Text → Option Line → Type 0
+abbrev pub Begun : Text → Option Line → Type 0
 Begun t None = IsBlankEnd t
 Begun t (Some l) = Cuts (IsIndent l.0) t l.1
 

@@ -151,11 +151,11 @@ space_append s t (inr h) k = inr (record {
 
 -- ---- gaps
 
-white_begins : (s next : Text) → IsSomeWhite s → is_gap (s ++ next) ≡ true
+pub white_begins : (s next : Text) → IsSomeWhite s → is_gap (s ++ next) ≡ true
 white_begins [] next h = absurd h
 white_begins (b ∷ s) next h = ap (λ (x : Bool). x || ends_line (b ∷ (s ++ next))) h.0
 
-break_begins : (s next : Text) → IsBreak s → is_gap (s ++ next) ≡ true
+pub break_begins : (s next : Text) → IsBreak s → is_gap (s ++ next) ≡ true
 break_begins s next (inl e) = ap (λ (x : Text). is_gap (x ++ next)) e
 break_begins s next (inr h) =
     ap (λ (x : Text). is_gap (x ++ next)) (h.parts ∙ ap (λ (x : Text). x ++ h.second) h.is_first ∙ ap (λ (x : Text). 13 ∷ x) h.is_second)
