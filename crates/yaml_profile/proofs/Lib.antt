@@ -22,3 +22,4 @@ pub mod SpellsScalarLemmas
 pub mod SpellsKeyLemmas
 pub mod SpellsFlowLemmas
 pub mod SpellsBlockLemmas
+pub mod SpellsDocumentLemmas

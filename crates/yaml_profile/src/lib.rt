@@ -6,6 +6,7 @@ mod error;
 mod escape;
 mod fault;
 mod flow;
+mod laws;
 mod lines;
 mod pairs;
 mod printer;
@@ -16,5 +17,7 @@ mod yaml;
 
 pub use error::{Feature, YamlError};
 pub use printer::{print, printed_trees_are_read, spellings_differ};
+pub use laws::text_spells_its_tree;
+pub use printer::print;
 pub use reader::read;
 pub use yaml::{Pair, Yaml};

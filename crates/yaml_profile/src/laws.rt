@@ -1,0 +1,11 @@
+//! The law of the profile. Each function does nothing: what it ensures is the law, for a caller to use.
+ghost use Rattle.std.specs.Prelude.{◌≡◌, Ok};
+ghost use Rattle.yaml_profile.specs.Text.{Text};
+ghost use Rattle.yaml_profile.specs.Read.{yaml_of};
+ghost use Rattle.yaml_profile.specs.Spells.{Spells};
+ghost use Rattle.yaml_profile.specs.declared.yaml.Yaml.{Yaml};
+
+/// A text that is read as a tree spells this tree.
+pub fn text_spells_its_tree()
+    ensures { (t : Text) (tree : Yaml) → yaml_of t ≡ Ok tree → Spells tree t }
+{}
