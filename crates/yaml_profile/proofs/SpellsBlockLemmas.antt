@@ -1,25 +1,25 @@
 -- Block nodes that are read are such texts.
-use Rattle.std.proofs.Common.{◌≡◌, ◌⊎◌, inl, inr, ℕ, zero, suc, ◌<◌, Bool, true, false, ◌&&◌, ◌||◌, ◌==◌, cond, nat_lt, List, [], ◌∷◌, ◌++◌, length, drop, map, Option, Some, None, Ok, refl, sym, ap, subst, ◌∙◌, append_assoc, arith}
+use Rattle.std.proofs.Common.{◌≡◌, inl, inr, ℕ, zero, suc, ◌<◌, Bool, true, false, ◌&&◌, ◌||◌, ◌==◌, cond, nat_lt, List, [], ◌∷◌, ◌++◌, length, drop, Option, Some, None, Ok, refl, sym, ap, subst, ◌∙◌, append_assoc, arith}
 use Rattle.std.specs.Prelude.{IfOk}
 use Rattle.std.proofs.lemmas.Bool.{eqb-true}
 use Rattle.std.proofs.lemmas.Bool.Decides.{nat_tests}
 use Rattle.yaml_profile.specs.declared.yaml.Yaml.{Yaml}
-use Rattle.yaml_profile.specs.declared.yaml.Yaml.TheVariants.{Scalar, Seq, Map}
+use Rattle.yaml_profile.specs.declared.yaml.Yaml.TheVariants.{Seq, Map}
 use Rattle.yaml_profile.specs.declared.yaml.Pair.{Pair}
 use Rattle.yaml_profile.specs.Text.{Text, ◌>>=◌, sees, is_white, ends_line, is_gap, past_white}
-use Rattle.yaml_profile.specs.Scalar.{closes, scalar}
+use Rattle.yaml_profile.specs.Scalar.{scalar}
 use Rattle.yaml_profile.specs.Mapping.{pair, has_name}
 use Rattle.yaml_profile.specs.Flow.{left_out, inline}
-use Rattle.yaml_profile.specs.Block.{Line, Blocks, Node, is_three, is_marker, next_line, begins_white, ends_node, alone, is_dash, entry_key, has_key, below, map_value, item, after_entry, new_entry, entries, after_dash, dashes, block}
-use Rattle.yaml_profile.specs.Space.{◌and_then◌, Is, IsSomeWhite, IsBreak, IsLineRest, ToLine}
-use Rattle.yaml_profile.specs.Spells.{Spelling, IsInline, IsJoined, last, more, IsBeside, nothing, same_line, later_line, IsDeeper, IsDeeperOrSequence, IsItem, IsEntry, IsBlockCollection, sequence, mapping, IsLineNode, IsBlock}
+use Rattle.yaml_profile.specs.Block.{Line, Blocks, Node, is_three, is_marker, next_line, ends_node, alone, is_dash, entry_key, has_key, below, map_value, item, after_entry, new_entry, entries, after_dash, dashes, block}
+use Rattle.yaml_profile.specs.Space.{Is, IsSomeWhite, IsLineRest, ToLine}
+use Rattle.yaml_profile.specs.Spells.{Spelling, IsInline, IsJoined, last, more, IsBeside, nothing, same_line, later_line, IsDeeper, IsDeeperOrSequence, IsItem, IsEntry, sequence, mapping, IsLineNode, IsBlock}
 use Rattle.yaml_profile.proofs.FineLemmas.{bind, choose, allowed, either, first_of_both, second_of_both}
-use Rattle.yaml_profile.proofs.SpellsPartLemmas.{Cuts, Reads, chain, widen, no_part, seen_byte}
-use Rattle.yaml_profile.proofs.SpellsSpaceLemmas.{white_more, white_cut, white_begins, break_begins}
+use Rattle.yaml_profile.proofs.SpellsPartLemmas.{Cuts, chain, widen, no_part, seen_byte}
+use Rattle.yaml_profile.proofs.SpellsSpaceLemmas.{white_cut, white_begins, break_begins}
 use Rattle.yaml_profile.proofs.SpellsLineLemmas.{Leads, next_read}
 use Rattle.yaml_profile.proofs.SpellsScalarLemmas.{mapped, left_true, right_true, both_true, differ, ScalarText, scalar_text}
 use Rattle.yaml_profile.proofs.SpellsKeyLemmas.{gap_weaker, feed_more, refuted, gap_closes, KeyOf, key_cut}
-use Rattle.yaml_profile.proofs.SpellsFlowLemmas.{NodeRead, inline_read, Distinct, distinct_next, distinct_last, seq_none, map_none}
+use Rattle.yaml_profile.proofs.SpellsFlowLemmas.{NodeRead, inline_read, Distinct, distinct_next, distinct_last}
 
 -- ---- gaps
 
@@ -39,6 +39,7 @@ some_white (b ∷ t) g e = go (is_white b) refl e
   where
     begin : is_white b ≡ true → Cuts IsSomeWhite (b ∷ t) (past_white t)
     begin w = let c = white_cut t in record { part = b ∷ c.part; whole = ap (λ (s : Text). b ∷ s) c.whole; holds = (w, c.holds) }
+
     go : (c : Bool) → is_white b ≡ c → (ends_line (cond c (past_white t) (b ∷ t)) || (c && sees 35 (cond c (past_white t) (b ∷ t)))) ≡ false
         → Cuts IsSomeWhite (b ∷ t) (cond c (past_white t) (b ∷ t))
     go true w k = begin w

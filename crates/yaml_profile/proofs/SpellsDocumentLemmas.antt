@@ -1,17 +1,15 @@
 -- Each text that is read spells its tree.
-use Rattle.std.proofs.Common.{◌≡◌, ◌⊎◌, inl, inr, ℕ, zero, suc, Bool, true, false, ◌&&◌, ◌||◌, ◌==◌, cond, nat_lt, List, [], ◌∷◌, ◌++◌, length, drop, Option, Some, None, Result, Ok, Err, refl, sym, ap, subst, ◌∙◌}
+use Rattle.std.proofs.Common.{◌≡◌, inl, inr, ℕ, Bool, true, false, ◌&&◌, ◌==◌, cond, nat_lt, [], ◌∷◌, ◌++◌, length, drop, Option, Some, None, Result, Ok, Err, refl, sym, ap, subst, ◌∙◌}
 use Rattle.std.specs.Prelude.{IfOk}
 use Rattle.std.specs.Str.{is_utf8}
-use Rattle.std.specs.Str.Lossy.{utf8_valid_len}
 use Rattle.std.proofs.lemmas.Bool.{eqb-true}
 use Rattle.yaml_profile.specs.declared.fault.Refusal.{Refusal}
 use Rattle.yaml_profile.specs.declared.error.YamlError.{YamlError}
 use Rattle.yaml_profile.specs.declared.yaml.Yaml.{Yaml}
-use Rattle.yaml_profile.specs.declared.yaml.Yaml.TheVariants.{Scalar}
-use Rattle.yaml_profile.specs.Text.{Text, ◌>>=◌, sees}
+use Rattle.yaml_profile.specs.Text.{Text, sees}
 use Rattle.yaml_profile.specs.Block.{Line, line_from, is_three, is_marker, next_line, ends_node, block, root, begun, ended, document}
 use Rattle.yaml_profile.specs.Read.{yaml_of, placed}
-use Rattle.yaml_profile.specs.Space.{◌and_then◌, IsPassed, IsIndent, ToLine, ToEnd}
+use Rattle.yaml_profile.specs.Space.{◌and_then◌, IsPassed, IsIndent, ToEnd}
 use Rattle.yaml_profile.specs.Spells.{IsBlock, IsMarked, IsStart, IsEmpty, Spells, node, empty}
 use Rattle.yaml_profile.proofs.FineLemmas.{bind, choose, first_of_both, second_of_both}
 use Rattle.yaml_profile.proofs.SpellsPartLemmas.{Cuts, chain, widen}

@@ -1,5 +1,5 @@
 -- Inline nodes that are read are such texts.
-use Rattle.std.proofs.Common.{◌≡◌, ◌⊎◌, inl, inr, ℕ, zero, suc, Bool, true, false, ◌||◌, ◌==◌, cond, List, [], ◌∷◌, ◌++◌, length, drop, map, Ok, refl, sym, ap, subst, ◌∙◌, append_assoc, arith}
+use Rattle.std.proofs.Common.{◌≡◌, inl, inr, ℕ, zero, suc, Bool, true, false, ◌||◌, List, [], ◌∷◌, ◌++◌, length, drop, map, Ok, refl, sym, ap, subst, ◌∙◌, append_assoc, arith}
 use Rattle.std.specs.Prelude.{IfOk, bytes_eq}
 use Rattle.std.proofs.lemmas.Slice.Eq.{bytes_eq-Decides}
 use Rattle.std.proofs.lemmas.Grind.{common_steps}
@@ -11,7 +11,7 @@ use Rattle.yaml_profile.specs.declared.yaml.Pair.{Pair}
 use Rattle.yaml_profile.specs.Text.{Text, ◌>>=◌, sees, is_flow_mark, past_white, spaced}
 use Rattle.yaml_profile.specs.Scalar.{closes, scalar}
 use Rattle.yaml_profile.specs.Mapping.{pair, has_name}
-use Rattle.yaml_profile.specs.Flow.{Reader, left_out, items, after_item, new_key, value_or_none, value_of, pairs, after_pair, inline}
+use Rattle.yaml_profile.specs.Flow.{Reader, left_out, items, after_item, new_key, value_of, pairs, after_pair, inline}
 use Rattle.yaml_profile.specs.Tree.{name_of}
 use Rattle.yaml_profile.specs.Space.{◌and_then◌, Is, IsSpace}
 use Rattle.yaml_profile.specs.Spells.{Spelling, IsListed, none, last, more, IsFlowValue, IsFlowPair, IsFlow, sequence, mapping, IsText, IsInline}
@@ -19,7 +19,7 @@ use Rattle.yaml_profile.proofs.FineLemmas.{bind, choose, allowed, either}
 use Rattle.yaml_profile.proofs.SpellsPartLemmas.{Cuts, Reads, chain, widen, no_part, seen_byte, IsFull, seen_full}
 use Rattle.yaml_profile.proofs.SpellsSpaceLemmas.{space_cut, space_append}
 use Rattle.yaml_profile.proofs.SpellsScalarLemmas.{mapped, differ, ScalarText, scalar_text}
-use Rattle.yaml_profile.proofs.SpellsKeyLemmas.{scalar_closed, scalar_full, KeyOf, key_cut, mark_closes, Spaced, spaced_value}
+use Rattle.yaml_profile.proofs.SpellsKeyLemmas.{scalar_closed, scalar_full, KeyOf, key_cut, mark_closes, spaced_value}
 
 -- ---- names
 

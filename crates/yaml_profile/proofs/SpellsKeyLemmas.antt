@@ -1,16 +1,15 @@
 -- Scalars and keys do not depend on all that follows them.
-use Rattle.std.proofs.Common.{◌≡◌, ◌⊎◌, inl, inr, ℕ, zero, suc, Bool, true, false, not, ◌&&◌, ◌||◌, ◌==◌, cond, List, [], ◌∷◌, ◌++◌, length, drop, refl, sym, ap, subst, ◌∙◌, append_assoc, arith}
+use Rattle.std.proofs.Common.{◌≡◌, ◌⊎◌, inl, inr, ℕ, Bool, true, false, not, ◌&&◌, ◌||◌, ◌==◌, List, [], ◌∷◌, ◌++◌, drop, refl, sym, ap, subst, ◌∙◌, append_assoc}
 use Rattle.std.specs.Prelude.{flat_map}
 use Rattle.std.proofs.lemmas.Bool.{eqb-true}
 use Rattle.yaml_profile.specs.Text.{Text, sees, is_white, ends_line, is_gap, is_flow_mark, past_white, spaced}
-use Rattle.yaml_profile.specs.Scalar.{closes, is_indicator, begins_plain, ends_plain, has_forbidden}
-use Rattle.yaml_profile.specs.Block.{ends_node, begins_white}
+use Rattle.yaml_profile.specs.Scalar.{closes, is_indicator, begins_plain, ends_plain}
 use Rattle.yaml_profile.specs.Space.{◌and_then◌, Many, Is, IsWhite, IsSpace, IsGap, IsGapOrComment}
 use Rattle.yaml_profile.specs.ScalarTexts.{in_single, IsQuoted, GoesOn, IsPlain, IsScalar, IsKey, quoted, plain as plain_key}
-use Rattle.yaml_profile.proofs.FineLemmas.{pick, either, first_of_both, second_of_both}
-use Rattle.yaml_profile.proofs.SpellsPartLemmas.{Cuts, Reads, both_parts, chain, widen, whole_cut, no_part, one_byte, seen_byte, IsFull, seen_full}
+use Rattle.yaml_profile.proofs.FineLemmas.{either, first_of_both, second_of_both}
+use Rattle.yaml_profile.proofs.SpellsPartLemmas.{Cuts, Reads, both_parts, chain, widen, seen_byte, IsFull, seen_full}
 use Rattle.yaml_profile.proofs.SpellsSpaceLemmas.{white_cut, space_cases, gap_begins}
-use Rattle.yaml_profile.proofs.SpellsScalarLemmas.{left_true, right_true, both_true, left_false, differ, Colon, PlainText, ScalarText}
+use Rattle.yaml_profile.proofs.SpellsScalarLemmas.{left_true, right_true, both_true, differ, PlainText, ScalarText}
 
 -- ---- less that follows
 
@@ -108,7 +107,6 @@ no_gap_begins flow b t g e =
 
 -- ---- scalars
 
-
 as_scalar : (flow : Bool) (t : Text) (x : List ℕ × Text) → closes flow x.1 ≡ true → PlainText flow t x → Reads (IsScalar flow) t x
 as_scalar flow t x c h = record { part = x.0; whole = h.whole; holds = inr (refl, plain_weaker flow x.0 [] x.1 h.full (weaker_none flow x.1 c) h.is_plain) }
 
@@ -199,9 +197,12 @@ spaced_value P after rest full n = go (space_cases after full)
     go (inl h) = record {
       part = n.part;
       whole = h.0 ∙ n.whole;
-      holds = (record { first = []; second = n.part; parts = refl; is_first = inl refl; is_second = n.holds }, λ c.
-      let same = h.0 ∙ n.whole in
-      mark_first n.part rest (ap is_gap (sym same) ∙ h.1) (ap (closes true) (sym same) ∙ c));
+      holds = (
+        record { first = []; second = n.part; parts = refl; is_first = inl refl; is_second = n.holds },
+        λ c.
+            let same = h.0 ∙ n.whole in
+            mark_first n.part rest (ap is_gap (sym same) ∙ h.1) (ap (closes true) (sym same) ∙ c),
+      );
     }
     go (inr p) = record {
       part = p.part ++ n.part;

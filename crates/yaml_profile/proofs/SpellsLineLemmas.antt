@@ -1,17 +1,15 @@
 -- Lines that are passed over are such texts.
-use Rattle.std.proofs.Common.{◌≡◌, ◌⊎◌, inl, inr, ℕ, zero, suc, ◌+◌, ◌<◌, ◌≤◌, Bool, true, false, ◌&&◌, ◌||◌, ◌==◌, cond, List, [], ◌∷◌, ◌++◌, length, drop, replicate, Option, Some, None, Result, Ok, Err, refl, sym, ap, subst, ◌∙◌, append_assoc, arith}
+use Rattle.std.proofs.Common.{◌≡◌, ◌⊎◌, inl, inr, ℕ, zero, suc, ◌+◌, ◌<◌, Bool, true, false, ◌&&◌, ◌||◌, ◌==◌, cond, [], ◌∷◌, ◌++◌, length, replicate, Option, Some, None, Result, Ok, Err, refl, sym, ap, subst, ◌∙◌, append_assoc, arith}
 use Rattle.std.specs.Prelude.{IfOk}
 use Rattle.std.proofs.lemmas.Bool.{eqb-true}
-use Rattle.std.proofs.lemmas.Bool.Decides.{nat_tests}
 use Rattle.std.proofs.lemmas.Grind.{common_steps}
-use Rattle.std.proofs.lemmas.List.{length-append}
 use Rattle.yaml_profile.specs.declared.fault.Refusal.{Refusal}
-use Rattle.yaml_profile.specs.Text.{Text, ◌>>=◌, sees, is_white, ends_line, is_gap, past_white}
-use Rattle.yaml_profile.specs.Block.{Line, is_blank, passed, line_from, is_marker, without_marker, next_line, begins_white, ends_node}
+use Rattle.yaml_profile.specs.Text.{Text, ◌>>=◌, sees, is_white, ends_line, past_white}
+use Rattle.yaml_profile.specs.Block.{Line, is_blank, line_from, is_marker, without_marker, next_line, ends_node}
 use Rattle.yaml_profile.specs.Tree.{Each}
-use Rattle.yaml_profile.specs.Space.{◌and_then◌, Many, none, more, Is, IsWhite, IsSomeWhite, IsBreak, IsComment, IsLineRest, IsBlankLine, IsPassed, IsIndent, ToLine, IsBlankEnd, ToEnd}
+use Rattle.yaml_profile.specs.Space.{◌and_then◌, none, more, IsBreak, IsLineRest, IsBlankLine, IsIndent, ToLine, IsBlankEnd, ToEnd}
 use Rattle.yaml_profile.proofs.FineLemmas.{bind, choose, pick, either, first_of_both, second_of_both}
-use Rattle.yaml_profile.proofs.SpellsPartLemmas.{Cuts, both_parts, chain, widen, no_part, one_byte, seen_byte, many_cut, map_first}
+use Rattle.yaml_profile.proofs.SpellsPartLemmas.{Cuts, both_parts, chain, widen, no_part, seen_byte}
 
 abbrev Lines : Type 0
 Lines = Result (Option Line) Refusal
@@ -252,17 +250,20 @@ line_after : (s t : Text) (next : Option Line) → (IsLineRest and_then IsBreak)
 line_after s t None p h = end_after s t p h
 line_after s t (Some l) p h =
     choose (Leads (s ++ t)) (is_marker l) _ _ (λ _. tt)
-    (λ e. (record {
-      part = s ++ h.part;
-      whole = ap (λ (x : Text). s ++ x) h.whole ∙ sym (append_assoc s h.part l.1);
-      holds = record {
-        first = p.first;
-        second = p.second ++ h.part;
-        parts = ap (λ (x : Text). x ++ h.part) p.parts ∙ append_assoc p.first p.second h.part;
-        is_first = p.is_first;
-        is_second = both_parts p.second h.part p.is_second h.holds;
-      };
-    }, e))
+    (λ e. (
+      record {
+        part = s ++ h.part;
+        whole = ap (λ (x : Text). s ++ x) h.whole ∙ sym (append_assoc s h.part l.1);
+        holds = record {
+          first = p.first;
+          second = p.second ++ h.part;
+          parts = ap (λ (x : Text). x ++ h.part) p.parts ∙ append_assoc p.first p.second h.part;
+          is_first = p.is_first;
+          is_second = both_parts p.second h.part p.is_second h.holds;
+        };
+      },
+      e,
+    ))
 
 next_over : (t : Text) → Ends IsLineRest t → IfOk (next_line t) (Leads t)
 unfolding next_line

@@ -1,9 +1,7 @@
 -- A part of a text, and what follows it.
-use Rattle.std.proofs.Common.{◌≡◌, ℕ, true, false, ◌==◌, List, [], ◌∷◌, ◌++◌, length, drop, refl, sym, ap, subst, ◌∙◌, append_assoc, ◌<◌}
-use Rattle.std.specs.Prelude.{IfOk, Result}
+use Rattle.std.proofs.Common.{◌≡◌, ℕ, true, List, [], ◌∷◌, ◌++◌, drop, refl, sym, ap, ◌∙◌, append_assoc}
 use Rattle.std.proofs.lemmas.Bool.{eqb-true}
-use Rattle.yaml_profile.specs.declared.fault.Refusal.{Refusal}
-use Rattle.yaml_profile.specs.Text.{Text, Outcome, sees}
+use Rattle.yaml_profile.specs.Text.{Text, sees}
 use Rattle.yaml_profile.specs.Space.{◌and_then◌, Many, none, more, Is}
 
 -- a part of the text that is so, and then the rest

@@ -1,21 +1,18 @@
 -- Scalars and keys that are read are such texts.
-use Rattle.std.proofs.Common.{◌≡◌, ◌⊎◌, inl, inr, ℕ, zero, suc, ◌+◌, ◌*◌, ◌<◌, ◌≤◌, Bool, true, false, not, ◌&&◌, ◌||◌, ◌==◌, cond, List, [], ◌∷◌, ◌++◌, length, map, take, drop, Option, Some, None, Result, Ok, Err, refl, sym, ap, subst, ◌∙◌, append_assoc, arith}
+use Rattle.std.proofs.Common.{◌≡◌, ◌⊎◌, inl, inr, ℕ, zero, suc, ◌+◌, ◌*◌, Bool, true, false, ◌&&◌, ◌||◌, ◌==◌, cond, List, [], ◌∷◌, ◌++◌, length, map, take, drop, Option, Some, None, Result, Ok, Err, refl, sym, ap, subst, ◌∙◌, append_assoc, arith}
 use Rattle.std.specs.Prelude.{IfOk, flat_map, encode_utf8}
 use Rattle.std.proofs.lemmas.Bool.{eqb-true}
-use Rattle.std.proofs.lemmas.Bool.Decides.{nat_tests}
 use Rattle.std.proofs.lemmas.Grind.{common_steps}
-use Rattle.std.proofs.lemmas.List.{length-append, take-append-drop}
 use Rattle.std.proofs.Math.Seq.{drop-append_seam, take-append_seam}
 use Rattle.yaml_profile.specs.declared.fault.Refusal.{Refusal}
-use Rattle.yaml_profile.specs.Text.{Text, ◌>>=◌, refuse, sees, is_white, ends_line, is_gap, is_flow_mark, past_white}
+use Rattle.yaml_profile.specs.Text.{Text, refuse, sees, is_white, ends_line, past_white}
 use Rattle.yaml_profile.specs.declared.fault.Fault.TheVariants.{Syntax}
-use Rattle.yaml_profile.specs.Scalar.{single, hex, hex_value, hex_digits, short_escape, by_kind, escape, is_scalar_value, double, double_quoted, begins_plain, is_indicator, ends_plain, plain_len, plain_of, has_forbidden, plain, scalar, closes}
+use Rattle.yaml_profile.specs.Scalar.{single, hex, hex_value, hex_digits, short_escape, by_kind, escape, is_scalar_value, double, double_quoted, begins_plain, ends_plain, plain_len, plain_of, has_forbidden, plain, scalar, closes}
 use Rattle.yaml_profile.specs.Tree.{Each}
-use Rattle.yaml_profile.specs.Space.{◌and_then◌, Is, IsWhite}
-use Rattle.yaml_profile.specs.ScalarTexts.{in_single, IsSingle, number_of, IsShort, IsNumbered, IsEscape, InDouble, none, byte, escape as escaped, IsQuoted, GoesOn, IsPlain, IsScalar, IsKey, quoted, plain as plain_key}
-use Rattle.yaml_profile.proofs.FineLemmas.{bind, choose, pick, either, first_of_both, second_of_both}
-use Rattle.yaml_profile.proofs.SpellsPartLemmas.{Cuts, Reads, both_parts, chain, widen, whole_cut, no_part, one_byte, seen_byte, IsFull}
-use Rattle.yaml_profile.proofs.SpellsSpaceLemmas.{white_cut}
+use Rattle.yaml_profile.specs.Space.{◌and_then◌, Is}
+use Rattle.yaml_profile.specs.ScalarTexts.{in_single, IsSingle, number_of, IsEscape, InDouble, none, byte, escape as escaped, IsQuoted, GoesOn, IsPlain}
+use Rattle.yaml_profile.proofs.FineLemmas.{bind, choose, pick, either}
+use Rattle.yaml_profile.proofs.SpellsPartLemmas.{Cuts, Reads, chain, widen, one_byte, IsFull}
 
 pub mapped : {A : Type 0} (P Q : A → Type 0) (o : Result A Refusal) → ((x : A) → P x → Q x) → IfOk o P → IfOk o Q
 mapped P Q (Ok x) f p = f x p
@@ -234,6 +231,7 @@ no_white flow white b t w e =
     no true false e = cc
     no false true e = cc
     no false false e = cc
+
     at : (k : ℕ) → b ≡ k → (ends_plain flow white (k ∷ t) ≡ true → ⊥) → ⊥
     at k f g = let P : ℕ → Type 0 = λ c. ends_plain flow white (c ∷ t) ≡ true in g (subst P f e)
 

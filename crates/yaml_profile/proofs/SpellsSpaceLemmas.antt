@@ -1,17 +1,13 @@
 -- White, comments and breaks that are read are such texts.
-use Rattle.std.proofs.Common.{◌≡◌, ◌⊎◌, inl, inr, ℕ, zero, suc, ◌+◌, ◌<◌, ◌≤◌, Bool, true, false, ◌&&◌, ◌||◌, ◌==◌, cond, List, [], ◌∷◌, ◌++◌, length, drop, replicate, Option, Some, None, Ok, refl, sym, ap, subst, ◌∙◌, append_assoc, arith}
-use Rattle.std.specs.Prelude.{IfOk}
+use Rattle.std.proofs.Common.{◌≡◌, ◌⊎◌, inl, inr, ℕ, Bool, true, false, ◌&&◌, ◌||◌, ◌==◌, cond, [], ◌∷◌, ◌++◌, drop, Option, Some, None, refl, sym, ap, subst, ◌∙◌, append_assoc}
 use Rattle.std.proofs.lemmas.Bool.{eqb-true}
-use Rattle.std.proofs.lemmas.Bool.Decides.{nat_tests}
-use Rattle.std.proofs.lemmas.Grind.{common_steps}
-use Rattle.std.proofs.lemmas.List.{length-append}
 use Rattle.yaml_profile.specs.declared.text.Between.{Between}
 use Rattle.yaml_profile.specs.declared.text.Between.TheVariants.{AfterByte, AfterWhite, InComment}
-use Rattle.yaml_profile.specs.Text.{Text, sees, is_white, ends_line, is_gap, past_white, next_between, past_space, spaced}
+use Rattle.yaml_profile.specs.Text.{Text, sees, is_white, ends_line, is_gap, past_white, past_space, spaced}
 use Rattle.yaml_profile.specs.Tree.{Each}
 use Rattle.yaml_profile.specs.Space.{◌and_then◌, Many, none, more, Is, IsWhite, IsSomeWhite, IsBreak, IsComment, IsGap, IsGapOrComment, IsSpace}
-use Rattle.yaml_profile.proofs.FineLemmas.{choose, pick, either, first_of_both, second_of_both}
-use Rattle.yaml_profile.proofs.SpellsPartLemmas.{Cuts, both_parts, chain, widen, no_part, one_byte, seen_byte, many_cut, many_append, regroup, map_second, IsFull}
+use Rattle.yaml_profile.proofs.FineLemmas.{pick, either, first_of_both, second_of_both}
+use Rattle.yaml_profile.proofs.SpellsPartLemmas.{Cuts, both_parts, chain, widen, no_part, seen_byte, many_append, IsFull}
 
 -- ---- white
 

@@ -1,6 +1,6 @@
 -- White, line breaks and comments, and what stands between nodes: each is a text by itself.
 -- Bytes by their codes: 10 LF, 13 CR, 32 space, 35 #.
-use Rattle.std.specs.Prelude.{◌≡◌, ◌⊎◌, ℕ, true, false, ◌==◌, List, [], ◌∷◌, ◌++◌, replicate}
+use Rattle.std.specs.Prelude.{◌≡◌, ◌⊎◌, ℕ, true, false, ◌==◌, [], ◌∷◌, ◌++◌, replicate}
 use Rattle.yaml_profile.specs.Text.{Text, is_white}
 use Rattle.yaml_profile.specs.Tree.{Each}
 
