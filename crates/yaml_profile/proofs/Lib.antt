@@ -23,3 +23,4 @@ pub mod SpellsKeyLemmas
 pub mod SpellsFlowLemmas
 pub mod SpellsBlockLemmas
 pub mod SpellsDocumentLemmas
+pub mod SpellsExampleLemmas

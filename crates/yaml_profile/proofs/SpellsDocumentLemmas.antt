@@ -114,6 +114,9 @@ document_read t =
     (λ first h. bind (Started t) (Spelled t) (begun first) _ (begun_read t first h)
     (λ next k. bind (Rooted t) (Spelled t) (root next) ended (root_read t next k) (ended_read t)))
 
+pub document_spells : (t : Text) (tree : Yaml) → document t ≡ Ok tree → Spells tree t
+document_spells t tree e = let P : Result Yaml Refusal → Type 0 = λ o. IfOk o (Spelled t) in subst P e (document_read t)
+
 -- ---- a text
 
 placed_read : (t : Text) (o : Result Yaml Refusal) → IfOk o (Spelled t) → IfOk (placed t o) (Spelled t)
