@@ -12,7 +12,7 @@ use Rattle.yaml_profile.specs.Mapping.{pair, has_name}
 use Rattle.yaml_profile.specs.Flow.{left_out, inline}
 use Rattle.yaml_profile.specs.Block.{Line, Blocks, Node, is_three, is_marker, next_line, ends_node, alone, is_dash, entry_key, has_key, below, map_value, item, after_entry, new_entry, entries, after_dash, dashes, block}
 use Rattle.yaml_profile.specs.Space.{Is, IsSomeWhite, IsLineRest, ToLine}
-use Rattle.yaml_profile.specs.Spells.{Spelling, IsInline, IsJoined, last, more, IsBeside, nothing, same_line, later_line, IsDeeper, IsDeeperOrSequence, IsItem, IsEntry, sequence, mapping, IsLineNode, IsBlock}
+use Rattle.yaml_profile.specs.Spells.{Production, IsInline, IsJoined, last, more, IsBeside, nothing, same_line, later_line, IsDeeper, IsDeeperOrSequence, IsItem, IsEntry, sequence, mapping, IsLineNode, IsBlock}
 use Rattle.yaml_profile.proofs.FineLemmas.{bind, choose, allowed, either, first_of_both, second_of_both}
 use Rattle.yaml_profile.proofs.SpellsPartLemmas.{Cuts, chain, widen, no_part, seen_byte}
 use Rattle.yaml_profile.proofs.SpellsSpaceLemmas.{white_cut, white_begins, break_begins}
@@ -61,7 +61,7 @@ line_begins column s next h =
     let behind : is_gap (h.second ++ next) ≡ true = ap is_gap (ap (λ (x : Text). x ++ next) k.parts ∙ append_assoc k.first k.second next) ∙ break_begins k.first (k.second ++ next) k.is_first in
     ap is_gap (ap (λ (x : Text). x ++ next) h.parts ∙ append_assoc h.first h.second next) ∙ rest_begins h.first (h.second ++ next) h.is_first behind
 
-beside_gap : (inline : Spelling) (lower : ℕ → Spelling) (tree : Yaml) (t : Text) → IsBeside inline lower tree t → is_gap t ≡ true
+beside_gap : (inline : Production) (lower : ℕ → Production) (tree : Yaml) (t : Text) → IsBeside inline lower tree t → is_gap t ≡ true
 beside_gap inline lower tree t (nothing e f) = ap is_gap f
 beside_gap inline lower tree t (same_line h) = ap is_gap h.parts ∙ white_begins h.first h.second h.is_first
 beside_gap inline lower tree t (later_line column h) = ap is_gap h.parts ∙ line_begins column h.first h.second h.is_first
@@ -93,13 +93,13 @@ marker_cut column s t whole same g e =
 
 -- ---- a node and the line after it
 
-pub record NodeEnds (P : Spelling) (t : Text) (x : Yaml × Option Line) : Type 0 where
+pub record NodeEnds (P : Production) (t : Text) (x : Yaml × Option Line) : Type 0 where
   pub after : Text
   pub node : Cuts (P x.0) t after
   pub leads : Leads after x.1
   pub gap : is_gap after ≡ true
 
-ends_widen : (P Q : Spelling) (t : Text) (x : Yaml × Option Line) → ((s : Text) → P x.0 s → Q x.0 s) → NodeEnds P t x → NodeEnds Q t x
+ends_widen : (P Q : Production) (t : Text) (x : Yaml × Option Line) → ((s : Text) → P x.0 s → Q x.0 s) → NodeEnds P t x → NodeEnds Q t x
 ends_widen P Q t x f h = record { after = h.after; node = widen f h.node; leads = h.leads; gap = h.gap }
 
 alone_read : (depth : ℕ) (t : Text) → IfOk (alone depth t) (NodeEnds (IsInline depth false) t)
@@ -115,33 +115,33 @@ alone_read depth t =
 -- ---- values and items
 
 -- a block node, which begins with a dash if its line does
-abbrev pub Dashed : (ℕ → Spelling) → Line → Spelling
+abbrev pub Dashed : (ℕ → Production) → Line → Production
 Dashed block l tree s = block l.0 tree s × (is_dash l.1 ≡ true → is_dash s ≡ true)
 
-abbrev pub BlockReads : (ℕ → Spelling) → Node → Type 0
+abbrev pub BlockReads : (ℕ → Production) → Node → Type 0
 BlockReads block node = (held : Bool) (l : Line) → is_marker l ≡ false → IfOk (node held l) (NodeEnds (Dashed block l) l.1)
 
 -- the nodes that a mapping or a sequence may hold on a later line
-abbrev Lower : Bool → (ℕ → Spelling) → ℕ → ℕ → Spelling
+abbrev Lower : Bool → (ℕ → Production) → ℕ → ℕ → Production
 Lower true block column = IsDeeperOrSequence block column
 Lower false block column = IsDeeper block column
 
-deeper : (of_map : Bool) (block : ℕ → Spelling) (column other : ℕ) (tree : Yaml) (s : Text) → column < other → block other tree s → Lower of_map block column other tree s
+deeper : (of_map : Bool) (block : ℕ → Production) (column other : ℕ) (tree : Yaml) (s : Text) → column < other → block other tree s → Lower of_map block column other tree s
 deeper true block column other tree s less h = (inl less, h)
 deeper false block column other tree s less h = (less, h)
 
-level : (of_map : Bool) (block : ℕ → Spelling) (column other : ℕ) (tree : Yaml) (s : Text) → of_map ≡ true → other ≡ column → is_dash s ≡ true → block other tree s → Lower of_map block column other tree s
+level : (of_map : Bool) (block : ℕ → Production) (column other : ℕ) (tree : Yaml) (s : Text) → of_map ≡ true → other ≡ column → is_dash s ≡ true → block other tree s → Lower of_map block column other tree s
 level true block column other tree s e same dash h = (inr (same, dash), h)
 level false block column other tree s e same dash h = absurd cc
 
-abbrev BesideRead : Spelling → (ℕ → Spelling) → Bool → ℕ → Text → Yaml × Option Line → Type 0
+abbrev BesideRead : Production → (ℕ → Production) → Bool → ℕ → Text → Yaml × Option Line → Type 0
 BesideRead inline block of_map column t x = NodeEnds (IsBeside inline (Lower of_map block column)) t x
 
-lower_node : (inline : Spelling) (block : ℕ → Spelling) (of_map : Bool) (column : ℕ) (t : Text) (l : Line) (x : Yaml × Option Line) → Cuts (ToLine l.0) t l.1
+lower_node : (inline : Production) (block : ℕ → Production) (of_map : Bool) (column : ℕ) (t : Text) (l : Line) (x : Yaml × Option Line) → Cuts (ToLine l.0) t l.1
     → ((s : Text) → Dashed block l x.0 s → Lower of_map block column l.0 x.0 s) → NodeEnds (Dashed block l) l.1 x → BesideRead inline block of_map column t x
 lower_node inline block of_map column t l x line f h = record { after = h.after; node = widen (λ s k. later_line l.0 k) (chain line (widen f h.node)); leads = h.leads; gap = h.gap }
 
-below_read : (inline : Spelling) (block : ℕ → Spelling) (node : Node) → BlockReads block node → (of_map : Bool) (column : ℕ) (t : Text) (next : Option Line) → is_gap t ≡ true → Leads t next
+below_read : (inline : Production) (block : ℕ → Production) (node : Node) → BlockReads block node → (of_map : Bool) (column : ℕ) (t : Text) (next : Option Line) → is_gap t ≡ true → Leads t next
     → IfOk (below node of_map column next) (BesideRead inline block of_map column t)
 below_read inline block node reads of_map column t None g h = record { after = t; node = no_part t (nothing refl refl); leads = h; gap = g }
 below_read inline block node reads of_map column t (Some l) g h =
@@ -158,16 +158,16 @@ below_read inline block node reads of_map column t (Some l) g h =
     (λ x k. lower_node inline block of_map column t l x h.0 (λ s d. level of_map block column l.0 x.0 s (first_of_both of_map _ e) same (d.1 dash) d.0) k) (reads true l h.1))
     (λ _. record { after = t; node = no_part t (nothing refl refl); leads = h; gap = g }))
 
-same_node : (inline : Spelling) (block : ℕ → Spelling) (of_map : Bool) (column : ℕ) (t : Text) (x : Yaml × Option Line) → is_gap t ≡ true → ends_node t ≡ false → NodeEnds inline (past_white t) x
+same_node : (inline : Production) (block : ℕ → Production) (of_map : Bool) (column : ℕ) (t : Text) (x : Yaml × Option Line) → is_gap t ≡ true → ends_node t ≡ false → NodeEnds inline (past_white t) x
     → BesideRead inline block of_map column t x
 same_node inline block of_map column t x g e h = record { after = h.after; node = widen (λ s k. same_line k) (chain (some_white t g e) h.node); leads = h.leads; gap = h.gap }
 
-later_read : (inline : Spelling) (block : ℕ → Spelling) (node : Node) → BlockReads block node → (of_map : Bool) (column : ℕ) (t : Text) → is_gap t ≡ true → ends_node t ≡ true
+later_read : (inline : Production) (block : ℕ → Production) (node : Node) → BlockReads block node → (of_map : Bool) (column : ℕ) (t : Text) → is_gap t ≡ true → ends_node t ≡ true
     → IfOk (next_line t >>= λ next. below node of_map column next) (BesideRead inline block of_map column t)
 later_read inline block node reads of_map column t g e =
     bind (Leads t) (BesideRead inline block of_map column t) (next_line t) (λ next. below node of_map column next) (next_read t e) (λ next h. below_read inline block node reads of_map column t next g h)
 
-map_value_read : (depth : ℕ) (block : ℕ → Spelling) (node : Node) → BlockReads block node → (column : ℕ) (t : Text) → is_gap t ≡ true
+map_value_read : (depth : ℕ) (block : ℕ → Production) (node : Node) → BlockReads block node → (column : ℕ) (t : Text) → is_gap t ≡ true
     → IfOk (map_value node depth column t) (BesideRead (IsInline depth false) block true column t)
 unfolding map_value
 map_value_read depth block node reads column t g =
@@ -175,7 +175,7 @@ map_value_read depth block node reads column t g =
     choose B (ends_node t) _ _ (later_read (IsInline depth false) block node reads true column t g)
     (λ e. mapped (NodeEnds (IsInline depth false) (past_white t)) B (alone depth (past_white t)) (λ x h. same_node (IsInline depth false) block true column t x g e h) (alone_read depth (past_white t)))
 
-item_read : (depth : ℕ) (block : ℕ → Spelling) (node : Node) → BlockReads block node → (column : ℕ) (t : Text) → is_gap t ≡ true
+item_read : (depth : ℕ) (block : ℕ → Production) (node : Node) → BlockReads block node → (column : ℕ) (t : Text) → is_gap t ≡ true
     → IfOk (item node depth column t) (BesideRead (IsInline depth false) block false column t)
 unfolding item
 item_read depth block node reads column t g =
@@ -228,7 +228,7 @@ to_column : (after : Text) (l : Line) (column : ℕ) → Leads after (Some l) �
 to_column after l column h same =
     let P : ℕ → Type 0 = λ c. Cuts (ToLine c) after l.1 × (is_marker (c, l.1) ≡ false) in subst P same (h.0, h.1)
 
-record EntriesRest (inline : Spelling) (block : ℕ → Spelling) (column : ℕ) (found : List Pair) (t : Text) (x : Yaml × Option Line) : Type 0 where
+record EntriesRest (inline : Production) (block : ℕ → Production) (column : ℕ) (found : List Pair) (t : Text) (x : Yaml × Option Line) : Type 0 where
   rest : List Pair
   after : Text
   same : x.0 ≡ Map (found ++ rest)
@@ -237,7 +237,7 @@ record EntriesRest (inline : Spelling) (block : ℕ → Spelling) (column : ℕ)
   gap : is_gap after ≡ true
   distinct : Distinct found → Distinct (found ++ rest)
 
-entry_cut : (inline : Spelling) (block : ℕ → Spelling) (column : ℕ) (t : Text) (key : List ℕ × Text) (value : Yaml × Option Line) → is_marker (column, t) ≡ false → EntryKey t key
+entry_cut : (inline : Production) (block : ℕ → Production) (column : ℕ) (t : Text) (key : List ℕ × Text) (value : Yaml × Option Line) → is_marker (column, t) ≡ false → EntryKey t key
     → (h : BesideRead inline block true column key.1 value) → Cuts (IsEntry inline block column (pair key.0 value.0)) t h.after
 entry_cut inline block column t key value m k h =
     let c = k.0 in
@@ -254,12 +254,12 @@ entry_cut inline block column t key value m k h =
       };
     }
 
-entries_read : (depth : ℕ) (block : ℕ → Spelling) (node : Node) → BlockReads block node → (column n : ℕ) (found : List Pair) (t : Text) → is_marker (column, t) ≡ false
+entries_read : (depth : ℕ) (block : ℕ → Production) (node : Node) → BlockReads block node → (column n : ℕ) (found : List Pair) (t : Text) → is_marker (column, t) ≡ false
     → IfOk (entries node depth column n found t) (EntriesRest (IsInline depth false) block column found t)
 unfolding entries
 entries_read depth block node reads column zero found t m = tt
 entries_read depth block node reads column (suc n) found t m =
-    let I : Spelling = IsInline depth false in
+    let I : Production = IsInline depth false in
     let E : Yaml × Option Line → Type 0 = EntriesRest I block column found t in
     bind (NewEntry found t) E (new_entry found t) _ (new_entry_read found t)
     (λ key k. bind (BesideRead I block true column key.1) E (map_value node depth column key.1) _ (map_value_read depth block node reads column key.1 k.0.1)
@@ -284,7 +284,7 @@ entries_read depth block node reads column (suc n) found t m =
 
 -- ---- sequences
 
-record ItemsRest (inline : Spelling) (block : ℕ → Spelling) (column : ℕ) (found : List Yaml) (t : Text) (x : Yaml × Option Line) : Type 0 where
+record ItemsRest (inline : Production) (block : ℕ → Production) (column : ℕ) (found : List Yaml) (t : Text) (x : Yaml × Option Line) : Type 0 where
   rest : List Yaml
   after : Text
   same : x.0 ≡ Seq (found ++ rest)
@@ -296,12 +296,12 @@ dash_seen : (t : Text) → is_dash t ≡ true → Cuts (Is 45) t (drop 1 t) × (
 dash_seen [] e = absurd cc
 dash_seen (b ∷ t) e = (seen_byte 45 (b ∷ t) (first_of_both (b == 45) (is_gap t) e), second_of_both (b == 45) (is_gap t) e)
 
-dashes_read : (depth : ℕ) (block : ℕ → Spelling) (node : Node) → BlockReads block node → (held : Bool) (column n : ℕ) (found : List Yaml) (t : Text) → is_dash t ≡ true
+dashes_read : (depth : ℕ) (block : ℕ → Production) (node : Node) → BlockReads block node → (held : Bool) (column n : ℕ) (found : List Yaml) (t : Text) → is_dash t ≡ true
     → IfOk (dashes node depth held column n found t) (ItemsRest (IsInline depth false) block column found t)
 unfolding dashes
 dashes_read depth block node reads held column zero found t d = tt
 dashes_read depth block node reads held column (suc n) found t d =
-    let I : Spelling = IsInline depth false in
+    let I : Production = IsInline depth false in
     let E : Yaml × Option Line → Type 0 = ItemsRest I block column found t in
     let begin = dash_seen t d in
     bind (BesideRead I block false column (drop 1 t)) E (item node depth column (drop 1 t)) _ (item_read depth block node reads column (drop 1 t) begin.1)
@@ -322,7 +322,7 @@ dashes_read depth block node reads held column (suc n) found t d =
     }) (dashes_read depth block node reads held column n now l.1 e))
     (λ _. choose E held _ _ (λ _. ended (Some l) leads) (λ _. tt))))
 
-item_dash : (inline : Spelling) (block : ℕ → Spelling) (column : ℕ) (tree : Yaml) (s next : Text) → is_gap next ≡ true → IsItem inline block column tree s → is_dash (s ++ next) ≡ true
+item_dash : (inline : Production) (block : ℕ → Production) (column : ℕ) (tree : Yaml) (s next : Text) → is_gap next ≡ true → IsItem inline block column tree s → is_dash (s ++ next) ≡ true
 item_dash inline block column tree s next g h =
     let gap = gap_more h.second next (beside_gap inline (IsDeeper block column) tree h.second h.is_second) g in
     ap is_dash (ap (λ (x : Text). x ++ next) (h.parts ∙ ap (λ (x : Text). x ++ h.second) h.is_first)) ∙ gap
@@ -331,7 +331,7 @@ append_nil : (s : Text) → s ≡ s ++ []
 append_nil [] = refl
 append_nil (b ∷ s) = ap (λ (x : Text). b ∷ x) (append_nil s)
 
-items_dash : (inline : Spelling) (block : ℕ → Spelling) (column : ℕ) (xs : List Yaml) (s : Text) → IsJoined column (IsItem inline block column) xs s → is_dash s ≡ true
+items_dash : (inline : Production) (block : ℕ → Production) (column : ℕ) (xs : List Yaml) (s : Text) → IsJoined column (IsItem inline block column) xs s → is_dash s ≡ true
 items_dash inline block column xs s (last {x = x} h) = ap is_dash (append_nil s) ∙ item_dash inline block column x s [] refl h
 items_dash inline block column xs s (more {x = x} first rest h j e) =
     let behind : s ≡ h.first ++ (h.second ++ rest) = e ∙ ap (λ (y : Text). y ++ rest) h.parts ∙ append_assoc h.first h.second rest in
@@ -355,8 +355,8 @@ block_read zero held l m =
     allowed N (left_out l.1) l.1 _ (choose N (is_dash l.1) _ _ (λ _. tt)
     (λ d. choose N (has_key l.1) _ _ (λ _. tt) (λ _. mapped (NodeEnds (IsInline zero false) l.1) N (alone zero l.1) (λ x h. line_node zero l x m d h) (alone_read zero l.1))))
 block_read (suc depth) held l m =
-    let I : Spelling = IsInline depth false in
-    let B : ℕ → Spelling = IsBlock depth in
+    let I : Production = IsInline depth false in
+    let B : ℕ → Production = IsBlock depth in
     let N : Yaml × Option Line → Type 0 = NodeEnds (Dashed (IsBlock (suc depth)) l) l.1 in
     let reads : BlockReads B (block depth) = λ h k. block_read depth h k in
     let turns = suc (length l.1) in

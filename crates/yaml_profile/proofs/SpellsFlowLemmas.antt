@@ -14,7 +14,7 @@ use Rattle.yaml_profile.specs.Mapping.{pair, has_name}
 use Rattle.yaml_profile.specs.Flow.{Reader, left_out, items, after_item, new_key, value_of, pairs, after_pair, inline}
 use Rattle.yaml_profile.specs.Tree.{name_of}
 use Rattle.yaml_profile.specs.Space.{◌and_then◌, Is, IsSpace}
-use Rattle.yaml_profile.specs.Spells.{Spelling, IsListed, none, last, more, IsFlowValue, IsFlowPair, IsFlow, sequence, mapping, IsText, IsInline}
+use Rattle.yaml_profile.specs.Spells.{Production, IsListed, none, last, more, IsFlowValue, IsFlowPair, IsFlow, sequence, mapping, IsText, IsInline}
 use Rattle.yaml_profile.proofs.FineLemmas.{bind, choose, allowed, either}
 use Rattle.yaml_profile.proofs.SpellsPartLemmas.{Cuts, Reads, chain, widen, no_part, seen_byte, IsFull, seen_full}
 use Rattle.yaml_profile.proofs.SpellsSpaceLemmas.{space_cut, space_append}
@@ -48,10 +48,10 @@ distinct_one n v ps new h =
 -- ---- flow sequences
 
 -- a node that was read, if what follows it closes a plain scalar
-abbrev pub NodeRead : Bool → Spelling → Text → Yaml × Text → Type 0
+abbrev pub NodeRead : Bool → Production → Text → Yaml × Text → Type 0
 NodeRead flow P t x = IsFull t × (closes flow x.1 ≡ true → Reads P t x)
 
-abbrev NodeReads : Spelling → Reader Yaml → Type 0
+abbrev NodeReads : Production → Reader Yaml → Type 0
 NodeReads P node = (t : Text) → IfOk (node t) (NodeRead true P t)
 
 pub seq_none : (found : List Yaml) → Seq found ≡ Seq (found ++ [])
@@ -68,15 +68,15 @@ listed_more x xs t u v f l = record {
   holds = more f.part l.part f.holds l.holds refl;
 }
 
-record ItemsRest (P : Spelling) (found : List Yaml) (t : Text) (x : Yaml × Text) : Type 0 where
+record ItemsRest (P : Production) (found : List Yaml) (t : Text) (x : Yaml × Text) : Type 0 where
   rest : List Yaml
   same : x.0 ≡ Seq (found ++ rest)
   listed : Cuts (IsListed 93 P rest) t x.1
 
-items_none : (P : Spelling) (found : List Yaml) (t : Text) → sees 93 (spaced t) ≡ true → ItemsRest P found t (Seq found, drop 1 (spaced t))
+items_none : (P : Production) (found : List Yaml) (t : Text) → sees 93 (spaced t) ≡ true → ItemsRest P found t (Seq found, drop 1 (spaced t))
 items_none P found t e = record { rest = []; same = seq_none found; listed = widen (λ s k. none k) (chain (space_cut t (seen_full 93 (spaced t) e)) (seen_byte 93 (spaced t) e)) }
 
-items_last : (P : Spelling) (found : List Yaml) (t : Text) (item : Yaml × Text) → sees 93 (spaced item.1) ≡ true → NodeRead true P (spaced t) item
+items_last : (P : Production) (found : List Yaml) (t : Text) (item : Yaml × Text) → sees 93 (spaced item.1) ≡ true → NodeRead true P (spaced t) item
     → ItemsRest P found t (Seq (found ++ item.0 ∷ []), drop 1 (spaced item.1))
 items_last P found t item e h = record {
   rest = item.0 ∷ [];
@@ -85,7 +85,7 @@ items_last P found t item e h = record {
       (chain (space_cut t h.0) (chain (h.1 (mark_closes 93 item.1 e refl)) (chain (space_cut item.1 (seen_full 93 (spaced item.1) e)) (seen_byte 93 (spaced item.1) e))));
 }
 
-items_next : (P : Spelling) (found : List Yaml) (t : Text) (item x : Yaml × Text) → sees 44 (spaced item.1) ≡ true → NodeRead true P (spaced t) item
+items_next : (P : Production) (found : List Yaml) (t : Text) (item x : Yaml × Text) → sees 44 (spaced item.1) ≡ true → NodeRead true P (spaced t) item
     → ItemsRest P (found ++ item.0 ∷ []) (drop 1 (spaced item.1)) x → ItemsRest P found t x
 items_next P found t item x e h k = record {
   rest = item.0 ∷ k.rest;
@@ -94,7 +94,7 @@ items_next P found t item x e h k = record {
       (chain (space_cut t h.0) (chain (h.1 (mark_closes 44 item.1 e refl)) (chain (space_cut item.1 (seen_full 44 (spaced item.1) e)) (seen_byte 44 (spaced item.1) e)))) k.listed;
 }
 
-items_read : (P : Spelling) (node : Reader Yaml) → NodeReads P node → (n : ℕ) (found : List Yaml) (t : Text) → IfOk (items node n found t) (ItemsRest P found t)
+items_read : (P : Production) (node : Reader Yaml) → NodeReads P node → (n : ℕ) (found : List Yaml) (t : Text) → IfOk (items node n found t) (ItemsRest P found t)
 unfolding items
 items_read P node reads zero found t = tt
 items_read P node reads (suc n) found t =
@@ -117,16 +117,16 @@ new_key_read found t =
     (λ key h. choose (NewKey true found t) (has_name key.0 found) _ _ (λ _. tt) (λ e. (h, e))))
 
 -- a pair that was read, and the space after it that was passed
-record PairText (P : Spelling) (name : List ℕ) (t : Text) (x : Yaml × Text) : Type 0 where
+record PairText (P : Production) (name : List ℕ) (t : Text) (x : Yaml × Text) : Type 0 where
   after : Text
   is_pair : Cuts (IsFlowPair P (pair name x.0)) t after
   space : Cuts IsSpace after x.1
 
-abbrev PairRead : Spelling → List ℕ → Text → Yaml × Text → Type 0
+abbrev PairRead : Production → List ℕ → Text → Yaml × Text → Type 0
 PairRead P name t x = closes true x.1 ≡ true → PairText P name t x
 
 -- a key and its value
-with_value : (P : Spelling) (name : List ℕ) (value : Yaml) (t u v : Text) → Cuts (KeyOf true name u) t u
+with_value : (P : Production) (name : List ℕ) (value : Yaml) (t u v : Text) → Cuts (KeyOf true name u) t u
     → Cuts (λ s. IsFlowValue P value s × (closes true u ≡ true → closes true s ≡ true)) u v → Cuts (IsFlowPair P (pair name value)) t v
 with_value P name value t u v k w = record {
   part = k.part ++ w.part;
@@ -134,7 +134,7 @@ with_value P name value t u v k w = record {
   holds = record { key = k.part; value = w.part; parts = refl; is_key = k.holds w.part w.holds.1; is_value = w.holds.0 };
 }
 
-value_read : (P : Spelling) (node : Reader Yaml) → NodeReads P node → (t : Text) (key : List ℕ × Text) → ScalarText true t key → IfOk (value_of node key.1) (PairRead P key.0 t)
+value_read : (P : Production) (node : Reader Yaml) → NodeReads P node → (t : Text) (key : List ℕ × Text) → ScalarText true t key → IfOk (value_of node key.1) (PairRead P key.0 t)
 unfolding value_of
 value_read P node reads t key h =
     let after : Text = drop 1 (past_white key.1) in
@@ -153,7 +153,7 @@ value_read P node reads t key h =
     }) (reads (spaced after))))
     (λ _. tt)
 
-record PairsRest (P : Spelling) (found : List Pair) (t : Text) (x : Yaml × Text) : Type 0 where
+record PairsRest (P : Production) (found : List Pair) (t : Text) (x : Yaml × Text) : Type 0 where
   rest : List Pair
   same : x.0 ≡ Map (found ++ rest)
   listed : Cuts (IsListed 125 (IsFlowPair P) rest) t x.1
@@ -169,7 +169,7 @@ distinct_next found rest n v new f h = let P : List Pair → Type 0 = λ l. Dist
 pub distinct_last : (found : List Pair) (n : List ℕ) (v : Yaml) → has_name n found ≡ false → Distinct found → Distinct (found ++ pair n v ∷ [])
 distinct_last found n v new h = distinct_one n v found new h
 
-pairs_none : (P : Spelling) (found : List Pair) (t : Text) → sees 125 (spaced t) ≡ true → PairsRest P found t (Map found, drop 1 (spaced t))
+pairs_none : (P : Production) (found : List Pair) (t : Text) → sees 125 (spaced t) ≡ true → PairsRest P found t (Map found, drop 1 (spaced t))
 pairs_none P found t e = record {
   rest = [];
   same = map_none found;
@@ -183,13 +183,13 @@ space_after c t u s e =
     let w = space_cut u (seen_full c (spaced u) e) in
     record { part = s.part ++ w.part; whole = s.whole ∙ ap (λ (x : Text). s.part ++ x) w.whole ∙ sym (append_assoc s.part w.part (spaced u)); holds = space_append s.part w.part s.holds w.holds }
 
-pair_listed : (P : Spelling) (c : ℕ) (t : Text) (key : List ℕ × Text) (value : Yaml × Text) → is_flow_mark c ≡ true → sees c (spaced value.1) ≡ true → ScalarText true (spaced t) key → PairRead P key.0 (spaced t) value
+pair_listed : (P : Production) (c : ℕ) (t : Text) (key : List ℕ × Text) (value : Yaml × Text) → is_flow_mark c ≡ true → sees c (spaced value.1) ≡ true → ScalarText true (spaced t) key → PairRead P key.0 (spaced t) value
     → Cuts (IsSpace and_then IsFlowPair P (pair key.0 value.0) and_then IsSpace and_then Is c) t (drop 1 (spaced value.1))
 pair_listed P c t key value m e h k =
     let p = k (mark_closes c value.1 e m) in
     chain (space_cut t (scalar_full true (spaced t) key h)) (chain p.is_pair (chain (space_after c p.after value.1 p.space e) (seen_byte c (spaced value.1) e)))
 
-pairs_next : (P : Spelling) (found : List Pair) (t : Text) (key : List ℕ × Text) (value x : Yaml × Text) → sees 44 (spaced value.1) ≡ true → NewKey true found (spaced t) key
+pairs_next : (P : Production) (found : List Pair) (t : Text) (key : List ℕ × Text) (value x : Yaml × Text) → sees 44 (spaced value.1) ≡ true → NewKey true found (spaced t) key
     → PairRead P key.0 (spaced t) value → PairsRest P (found ++ pair key.0 value.0 ∷ []) (drop 1 (spaced value.1)) x → PairsRest P found t x
 pairs_next P found t key value x e h v k = record {
   rest = pair key.0 value.0 ∷ k.rest;
@@ -198,7 +198,7 @@ pairs_next P found t key value x e h v k = record {
   distinct = distinct_next found k.rest key.0 value.0 h.1 k.distinct;
 }
 
-pairs_read : (P : Spelling) (node : Reader Yaml) → NodeReads P node → (n : ℕ) (found : List Pair) (t : Text) → IfOk (pairs node n found t) (PairsRest P found t)
+pairs_read : (P : Production) (node : Reader Yaml) → NodeReads P node → (n : ℕ) (found : List Pair) (t : Text) → IfOk (pairs node n found t) (PairsRest P found t)
 unfolding pairs
 pairs_read P node reads zero found t = tt
 pairs_read P node reads (suc n) found t =
@@ -220,10 +220,10 @@ text_read flow t =
     bind (ScalarText flow t) (NodeRead flow (IsText flow) t) (scalar flow t) (λ text. Ok (Scalar text.0, text.1)) (scalar_text flow t)
     (λ text h. (scalar_full flow t text h, λ c. widen (λ s k. record { text = text.0; same = refl; is_scalar = k }) (scalar_closed flow t text c h)))
 
-seq_node : (P : Spelling) (flow : Bool) (t : Text) (x : Yaml × Text) → sees 91 t ≡ true → ItemsRest P [] (drop 1 t) x → NodeRead flow (IsFlow P) t x
+seq_node : (P : Production) (flow : Bool) (t : Text) (x : Yaml × Text) → sees 91 t ≡ true → ItemsRest P [] (drop 1 t) x → NodeRead flow (IsFlow P) t x
 seq_node P flow t x e h = (seen_full 91 t e, λ _. widen (λ s k. sequence h.rest h.same k) (chain (seen_byte 91 t e) h.listed))
 
-map_node : (P : Spelling) (flow : Bool) (t : Text) (x : Yaml × Text) → sees 123 t ≡ true → PairsRest P [] (drop 1 t) x → NodeRead flow (IsFlow P) t x
+map_node : (P : Production) (flow : Bool) (t : Text) (x : Yaml × Text) → sees 123 t ≡ true → PairsRest P [] (drop 1 t) x → NodeRead flow (IsFlow P) t x
 map_node P flow t x e h = (seen_full 123 t e, λ _. widen (λ s k. mapping h.rest h.same (h.distinct tt) k) (chain (seen_byte 123 t e) h.listed))
 
 pub inline_read : (depth : ℕ) (flow : Bool) (t : Text) → IfOk (inline depth flow t) (NodeRead flow (IsInline depth flow) t)
@@ -231,7 +231,7 @@ unfolding inline IsInline
 inline_read zero flow t =
     allowed (NodeRead flow (IsText flow) t) (left_out t) t _ (choose (NodeRead flow (IsText flow) t) (sees 91 t) _ _ (λ _. tt) (λ _. choose (NodeRead flow (IsText flow) t) (sees 123 t) _ _ (λ _. tt) (λ _. text_read flow t)))
 inline_read (suc depth) flow t =
-    let P : Spelling = IsInline depth true in
+    let P : Production = IsInline depth true in
     let N : Yaml × Text → Type 0 = NodeRead flow (IsInline (suc depth) flow) t in
     let reads : NodeReads P (inline depth true) = λ s. inline_read depth true s in
     let rest = drop 1 t in

@@ -17,7 +17,7 @@ pub record IsSingle (value text : Text) : Type 0 where
   pub quoted : text ≡ 39 ∷ (flat_map in_single value ++ 39 ∷ [])
   pub one_line : Each (λ b. (b == 10) ≡ false) value
 
--- the number that is written with these digits after those of the first number, at base 16
+-- the number of these digits at base 16, after the digits of the first number
 abbrev pub number_of : ℕ → List ℕ → ℕ
 number_of high [] = high
 number_of high (d ∷ ds) = number_of (16 * high + d) ds
@@ -56,8 +56,8 @@ IsQuoted value text = IsSingle value text ⊎ (Is 34 and_then InDouble value and
 
 -- ---- plain
 
--- a plain scalar ends at no byte of the text, and so not before what stands next, and the last byte is not white. The second
--- flag says that white stands before the text
+-- a plain scalar ends at no byte of the text, where this stands next, and its last byte is not white. The second flag says
+-- that white stands before the text
 abbrev pub GoesOn : Bool → Bool → Text → Text → Type 0
 GoesOn flow white [] next = white ≡ false
 GoesOn flow white (b ∷ t) next = (ends_plain flow white (b ∷ (t ++ next)) ≡ false) × GoesOn flow (is_white b) t next

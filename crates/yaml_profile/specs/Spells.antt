@@ -11,9 +11,9 @@ use Rattle.yaml_profile.specs.Tree.{name_of, value_of}
 use Rattle.yaml_profile.specs.Space.{◌and_then◌, Is, IsSomeWhite, IsPassed, IsIndent, ToLine, IsBlankEnd, ToEnd, IsSpace}
 use Rattle.yaml_profile.specs.ScalarTexts.{IsScalar, IsKey}
 
--- which texts spell a node
-abbrev pub Spelling : Type 1
-Spelling = Yaml → Text → Type 0
+-- a production of nodes: which texts spell which tree
+abbrev pub Production : Type 1
+Production = Yaml → Text → Type 0
 
 -- ---- inline nodes
 
@@ -25,11 +25,11 @@ pub data IsListed {A : Type 0} (close : ℕ) (IsItem : A → Text → Type 0) : 
       → IsListed close IsItem xs rest → t ≡ first ++ rest → IsListed close IsItem (x ∷ xs) t
 
 -- a value in a flow mapping: a node with space before it or none, or nothing for the empty scalar
-abbrev pub IsFlowValue : Spelling → Spelling
+abbrev pub IsFlowValue : Production → Production
 IsFlowValue node tree t = (IsSpace and_then node tree) t ⊎ ((tree ≡ Scalar []) × (t ≡ []))
 
 -- a pair of a flow mapping
-pub record IsFlowPair (node : Spelling) (pair : Pair) (t : Text) : Type 0 where
+pub record IsFlowPair (node : Production) (pair : Pair) (t : Text) : Type 0 where
   pub key : Text
   pub value : Text
   pub parts : t ≡ key ++ value
@@ -37,7 +37,7 @@ pub record IsFlowPair (node : Spelling) (pair : Pair) (t : Text) : Type 0 where
   pub is_value : IsFlowValue node (value_of pair) value
 
 -- a flow collection of such nodes
-pub data IsFlow (node : Spelling) (tree : Yaml) (t : Text) : Type 0 where
+pub data IsFlow (node : Production) (tree : Yaml) (t : Text) : Type 0 where
   sequence : (items : List Yaml) → tree ≡ Seq items → (Is 91 and_then IsListed 93 node items) t → IsFlow node tree t
   mapping : (pairs : List Pair) → tree ≡ Map pairs → IsDistinct (map name_of pairs)
       → (Is 123 and_then IsListed 125 (IsFlowPair node) pairs) t → IsFlow node tree t
@@ -49,7 +49,7 @@ pub record IsText (flow : Bool) (tree : Yaml) (t : Text) : Type 0 where
   pub is_scalar : IsScalar flow text t
 
 -- an inline node with collections nested no deeper than the number. The flag says that it stands in a flow collection
-unfoldable pub IsInline : ℕ → Bool → Spelling
+unfoldable pub IsInline : ℕ → Bool → Production
 IsInline zero flow tree t = IsText flow tree t
 IsInline (suc depth) flow tree t = IsText flow tree t ⊎ IsFlow (IsInline depth true) tree t
 
@@ -62,25 +62,25 @@ pub data IsJoined {A : Type 0} (column : ℕ) (IsEntry : A → Text → Type 0) 
       → t ≡ first ++ rest → IsJoined column IsEntry (x ∷ xs) t
 
 -- what follows `-` or a key with its colon: an inline node, a node on a later line, or nothing for the empty scalar
-pub data IsBeside (inline : Spelling) (lower : ℕ → Spelling) (tree : Yaml) (t : Text) : Type 0 where
+pub data IsBeside (inline : Production) (lower : ℕ → Production) (tree : Yaml) (t : Text) : Type 0 where
   nothing : tree ≡ Scalar [] → t ≡ [] → IsBeside inline lower tree t
   same_line : (IsSomeWhite and_then inline tree) t → IsBeside inline lower tree t
   later_line : (column : ℕ) → (ToLine column and_then lower column tree) t → IsBeside inline lower tree t
 
 -- a node at a greater column than the first
-abbrev pub IsDeeper : (ℕ → Spelling) → ℕ → ℕ → Spelling
+abbrev pub IsDeeper : (ℕ → Production) → ℕ → ℕ → Production
 IsDeeper block column deeper tree t = (column < deeper) × block deeper tree t
 
 -- a node at a greater column, or a sequence at the same one
-abbrev pub IsDeeperOrSequence : (ℕ → Spelling) → ℕ → ℕ → Spelling
+abbrev pub IsDeeperOrSequence : (ℕ → Production) → ℕ → ℕ → Production
 IsDeeperOrSequence block column other tree t = (column < other ⊎ ((other ≡ column) × (is_dash t ≡ true))) × block other tree t
 
 -- an item of a block sequence at this column
-abbrev pub IsItem : Spelling → (ℕ → Spelling) → ℕ → Spelling
+abbrev pub IsItem : Production → (ℕ → Production) → ℕ → Production
 IsItem inline block column tree t = (Is 45 and_then IsBeside inline (IsDeeper block column) tree) t
 
 -- a pair of a block mapping at this column
-pub record IsEntry (inline : Spelling) (block : ℕ → Spelling) (column : ℕ) (pair : Pair) (t : Text) : Type 0 where
+pub record IsEntry (inline : Production) (block : ℕ → Production) (column : ℕ) (pair : Pair) (t : Text) : Type 0 where
   pub key : Text
   pub value : Text
   pub parts : t ≡ key ++ value
@@ -89,19 +89,19 @@ pub record IsEntry (inline : Spelling) (block : ℕ → Spelling) (column : ℕ)
   pub is_value : IsBeside inline (IsDeeperOrSequence block column) (value_of pair) value
 
 -- a block collection of such nodes at this column
-pub data IsBlockCollection (inline : Spelling) (block : ℕ → Spelling) (column : ℕ) (tree : Yaml) (t : Text) : Type 0 where
+pub data IsBlockCollection (inline : Production) (block : ℕ → Production) (column : ℕ) (tree : Yaml) (t : Text) : Type 0 where
   sequence : (items : List Yaml) → tree ≡ Seq items → IsJoined column (IsItem inline block column) items t
       → IsBlockCollection inline block column tree t
   mapping : (pairs : List Pair) → tree ≡ Map pairs → IsDistinct (map name_of pairs) → IsJoined column (IsEntry inline block column) pairs t
       → IsBlockCollection inline block column tree t
 
 -- an inline node that begins at this column of a line
-abbrev pub IsLineNode : ℕ → ℕ → Spelling
+abbrev pub IsLineNode : ℕ → ℕ → Production
 IsLineNode depth column tree t = IsInline depth false tree t × (is_marker (column, t) ≡ false)
 
 -- a block node at this column with collections nested no deeper than the first number. It goes up to its last byte that is
 -- not white, a comment or a break
-unfoldable pub IsBlock : ℕ → ℕ → Spelling
+unfoldable pub IsBlock : ℕ → ℕ → Production
 IsBlock zero column tree t = IsLineNode zero column tree t
 IsBlock (suc depth) column tree t = IsLineNode (suc depth) column tree t ⊎ IsBlockCollection (IsInline depth false) (IsBlock depth) column tree t
 
