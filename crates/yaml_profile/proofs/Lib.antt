@@ -24,3 +24,10 @@ pub mod SpellsFlowLemmas
 pub mod SpellsBlockLemmas
 pub mod SpellsDocumentLemmas
 pub mod SpellsExampleLemmas
+pub mod SpellsBackSpaceLemmas
+pub mod SpellsBackScalarLemmas
+pub mod SpellsBackPlainLemmas
+pub mod SpellsBackFlowLemmas
+pub mod SpellsBackBlockLemmas
+pub mod SpellsBackNodeLemmas
+pub mod SpellsBackDocumentLemmas

@@ -23,7 +23,7 @@ use Rattle.yaml_profile.proofs.SpellsFlowLemmas.{NodeRead, inline_read, Distinct
 
 -- ---- gaps
 
-node_gap : (t : Text) → ends_node t ≡ true → is_gap t ≡ true
+pub node_gap : (t : Text) → ends_node t ≡ true → is_gap t ≡ true
 unfolding past_white
 node_gap [] e = refl
 node_gap (b ∷ t) e = go (is_white b) refl e
@@ -45,7 +45,7 @@ some_white (b ∷ t) g e = go (is_white b) refl e
     go true w k = begin w
     go false w k = absurd (either (is_white b) (ends_line (b ∷ t)) (λ f. differ f w) (λ f. differ (left_true (ends_line (b ∷ t)) _ f) k) g)
 
-gap_more : (s t : Text) → is_gap s ≡ true → is_gap t ≡ true → is_gap (s ++ t) ≡ true
+pub gap_more : (s t : Text) → is_gap s ≡ true → is_gap t ≡ true → is_gap (s ++ t) ≡ true
 gap_more [] t e f = f
 gap_more (b ∷ s) t e f = gap_weaker b s (s ++ t) (feed_more s t) e
 
@@ -55,13 +55,13 @@ rest_begins (b ∷ r) s (inl h) g = left_true (is_white b) _ h.0
 rest_begins (b ∷ r) s (inr h) g =
     ap is_gap (ap (λ (x : Text). x ++ s) h.parts ∙ append_assoc h.first h.second s) ∙ white_begins h.first (h.second ++ s) h.is_first
 
-line_begins : (column : ℕ) (s next : Text) → ToLine column s → is_gap (s ++ next) ≡ true
+pub line_begins : (column : ℕ) (s next : Text) → ToLine column s → is_gap (s ++ next) ≡ true
 line_begins column s next h =
     let k = h.is_second in
     let behind : is_gap (h.second ++ next) ≡ true = ap is_gap (ap (λ (x : Text). x ++ next) k.parts ∙ append_assoc k.first k.second next) ∙ break_begins k.first (k.second ++ next) k.is_first in
     ap is_gap (ap (λ (x : Text). x ++ next) h.parts ∙ append_assoc h.first h.second next) ∙ rest_begins h.first (h.second ++ next) h.is_first behind
 
-beside_gap : (inline : Production) (lower : ℕ → Production) (tree : Yaml) (t : Text) → IsBeside inline lower tree t → is_gap t ≡ true
+pub beside_gap : (inline : Production) (lower : ℕ → Production) (tree : Yaml) (t : Text) → IsBeside inline lower tree t → is_gap t ≡ true
 beside_gap inline lower tree t (nothing e f) = ap is_gap f
 beside_gap inline lower tree t (same_line h) = ap is_gap h.parts ∙ white_begins h.first h.second h.is_first
 beside_gap inline lower tree t (later_line column h) = ap is_gap h.parts ∙ line_begins column h.first h.second h.is_first
@@ -122,7 +122,7 @@ abbrev pub BlockReads : (ℕ → Production) → Node → Type 0
 BlockReads block node = (held : Bool) (l : Line) → is_marker l ≡ false → IfOk (node held l) (NodeEnds (Dashed block l) l.1)
 
 -- the nodes that a mapping or a sequence may hold on a later line
-abbrev Lower : Bool → (ℕ → Production) → ℕ → ℕ → Production
+abbrev pub Lower : Bool → (ℕ → Production) → ℕ → ℕ → Production
 Lower true block column = IsDeeperOrSequence block column
 Lower false block column = IsDeeper block column
 

@@ -27,7 +27,7 @@ pub gap_weaker : (b : ℕ) (s r : Text) → (sees 10 s ≡ true → sees 10 r �
 gap_weaker b s r f e =
     either (is_white b) (ends_line (b ∷ s)) (λ g. left_true (is_white b) _ g) (λ g. right_true (is_white b) _ (line_weaker b s r f g)) e
 
-closes_weaker : (flow : Bool) (b : ℕ) (s r : Text) → (sees 10 s ≡ true → sees 10 r ≡ true) → closes flow (b ∷ s) ≡ true → closes flow (b ∷ r) ≡ true
+pub closes_weaker : (flow : Bool) (b : ℕ) (s r : Text) → (sees 10 s ≡ true → sees 10 r ≡ true) → closes flow (b ∷ s) ≡ true → closes flow (b ∷ r) ≡ true
 closes_weaker flow b s r f e =
     either (is_gap (b ∷ s)) (flow && is_flow_mark b) (λ g. left_true (is_gap (b ∷ r)) _ (gap_weaker b s r f g)) (λ g. right_true (is_gap (b ∷ r)) _ g) e
 
@@ -60,11 +60,11 @@ goes_weaker flow white [] s r w h = h
 goes_weaker flow white (b ∷ v) s r w h =
     (refuted (ends_plain flow white (b ∷ (v ++ s))) (ends_plain flow white (b ∷ (v ++ r))) (ends_weaker flow white b (v ++ s) (v ++ r) (weaker_append flow v s r w)) h.0, goes_weaker flow (is_white b) v s r w h.1)
 
-not_true : (x : Bool) → not x ≡ true → x ≡ false
+pub not_true : (x : Bool) → not x ≡ true → x ≡ false
 not_true true e = absurd cc
 not_true false e = refl
 
-true_not : (x : Bool) → x ≡ false → not x ≡ true
+pub true_not : (x : Bool) → x ≡ false → not x ≡ true
 true_not true e = absurd cc
 true_not false e = refl
 
@@ -115,15 +115,15 @@ pub scalar_closed : (flow : Bool) (t : Text) (x : List ℕ × Text) → closes f
 scalar_closed flow t x c (inl q) = widen (λ s k. inl k) q
 scalar_closed flow t x c (inr p) = as_scalar flow t x c p
 
-append_full : (s r : Text) → IsFull s → IsFull (s ++ r)
+pub append_full : (s r : Text) → IsFull s → IsFull (s ++ r)
 append_full [] r f = absurd (f refl)
 append_full (b ∷ s) r f = λ e. cc
 
-full_append : (s r : Text) → IsFull r → IsFull (s ++ r)
+pub full_append : (s r : Text) → IsFull r → IsFull (s ++ r)
 full_append [] r f = f
 full_append (b ∷ s) r f = λ e. cc
 
-full_by : (s t : Text) → t ≡ s → IsFull s → IsFull t
+pub full_by : (s t : Text) → t ≡ s → IsFull s → IsFull t
 full_by s t e f k = f (sym e ∙ k)
 
 quoted_full : (v s : Text) → IsQuoted v s → IsFull s
@@ -164,7 +164,7 @@ pub gap_closes : (flow : Bool) (t : Text) → is_gap t ≡ true → closes flow 
 gap_closes flow [] e = refl
 gap_closes flow (b ∷ t) e = left_true (is_gap (b ∷ t)) _ e
 
-mark_seen : (c : ℕ) (t : Text) → sees c t ≡ true → is_flow_mark c ≡ true → closes true t ≡ true
+pub mark_seen : (c : ℕ) (t : Text) → sees c t ≡ true → is_flow_mark c ≡ true → closes true t ≡ true
 mark_seen c [] e m = absurd cc
 mark_seen c (b ∷ t) e m = right_true (is_gap (b ∷ t)) _ (ap is_flow_mark (eqb-true b c e) ∙ m)
 

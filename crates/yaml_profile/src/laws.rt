@@ -1,5 +1,5 @@
-//! The law of the profile. Each function does nothing: what it ensures is the law, for a caller to use.
-ghost use Rattle.std.specs.Prelude.{◌≡◌, Ok};
+//! The laws of the profile. Each function does nothing: what it ensures is the law, for a caller to use.
+ghost use Rattle.std.specs.Prelude.{◌≡◌, ◌≤◌, length, Ok, IsUtf8};
 ghost use Rattle.yaml_profile.specs.Text.{Text};
 ghost use Rattle.yaml_profile.specs.Read.{yaml_of};
 ghost use Rattle.yaml_profile.specs.Spells.{Spells};
@@ -8,4 +8,9 @@ ghost use Rattle.yaml_profile.specs.declared.yaml.Yaml.{Yaml};
 /// A text that is read as a tree spells this tree.
 pub fn text_spells_its_tree()
     ensures { (t : Text) (tree : Yaml) → yaml_of t ≡ Ok tree → Spells tree t }
+{}
+
+/// A text in UTF-8 that is not too long and spells a tree is read as this tree. So it spells no other.
+pub fn spelled_tree_is_read()
+    ensures { (t : Text) (tree : Yaml) → length t ≤ 67108864 → IsUtf8 t → Spells tree t → yaml_of t ≡ Ok tree }
 {}
