@@ -1,33 +1,31 @@
 -- The texts of block nodes are read as such.
-use Rattle.std.proofs.Common.{◌≡◌, ◌⊎◌, inl, inr, ℕ, zero, suc, ◌+◌, ◌<◌, ◌≤◌, Bool, true, false, not, ◌&&◌, ◌||◌, ◌==◌, cond, nat_lt, List, [], ◌∷◌, ◌++◌, length, drop, map, Option, Some, None, Result, Ok, Err, refl, sym, ap, subst, ◌∙◌, append_assoc, arith}
+use Rattle.std.proofs.Common.{◌≡◌, ◌⊎◌, inl, inr, ℕ, zero, suc, ◌<◌, Bool, true, false, not, ◌&&◌, ◌||◌, ◌==◌, cond, nat_lt, List, [], ◌∷◌, ◌++◌, drop, Option, Some, None, Result, Ok, refl, sym, ap, subst, ◌∙◌, append_assoc, arith}
 use Rattle.std.proofs.lemmas.Bool.{eqb-true}
 use Rattle.std.proofs.lemmas.Bool.Decides.{nat_tests}
-use Rattle.std.proofs.lemmas.List.{length-append}
 use Rattle.yaml_profile.specs.declared.fault.Refusal.{Refusal}
 use Rattle.yaml_profile.specs.declared.fault.Fault.TheVariants.{LeftOut, RepeatedKey, Syntax}
 use Rattle.yaml_profile.specs.declared.error.Feature.TheVariants.{Compact}
 use Rattle.yaml_profile.specs.declared.yaml.Yaml.{Yaml}
-use Rattle.yaml_profile.specs.declared.yaml.Yaml.TheVariants.{Scalar, Seq, Map}
+use Rattle.yaml_profile.specs.declared.yaml.Yaml.TheVariants.{Scalar, Map}
 use Rattle.yaml_profile.specs.declared.yaml.Pair.{Pair}
 use Rattle.yaml_profile.specs.Text.{Text, ◌>>=◌, refuse, sees, is_white, ends_line, is_gap, past_white}
-use Rattle.yaml_profile.specs.Scalar.{closes, begins_plain, is_forbidden, has_forbidden, plain, scalar}
+use Rattle.yaml_profile.specs.Scalar.{closes, is_forbidden, has_forbidden, plain, scalar}
 use Rattle.yaml_profile.specs.Mapping.{pair, has_name}
 use Rattle.yaml_profile.specs.Flow.{left_out, unless, inline}
-use Rattle.yaml_profile.specs.Block.{Line, Blocks, Node, is_three, is_marker, next_line, begins_white, ends_node, alone, is_dash, entry_key, is_found, has_key, below, map_value, item, after_entry, new_entry, entries, after_dash, dashes, block}
+use Rattle.yaml_profile.specs.Block.{Line, Blocks, Node, is_three, is_marker, next_line, begins_white, ends_node, alone, is_dash, entry_key, is_found, has_key, below, map_value, item, after_entry, new_entry, entries, block}
 use Rattle.yaml_profile.specs.Tree.{name_of, value_of}
-use Rattle.yaml_profile.specs.Space.{◌and_then◌, Is, IsWhite, IsSomeWhite, ToLine}
-use Rattle.yaml_profile.specs.ScalarTexts.{IsQuoted, IsScalar, IsKey, quoted, plain as plain_key}
-use Rattle.yaml_profile.specs.Spells.{Production, IsFlow, sequence as flow_sequence, mapping as flow_mapping, IsText, IsInline, IsJoined, last, more, IsBeside, nothing, same_line, later_line, IsDeeper, IsDeeperOrSequence, IsItem, IsEntry, IsBlockCollection, sequence, mapping, IsLineNode, IsBlock}
+use Rattle.yaml_profile.specs.Space.{IsSomeWhite}
+use Rattle.yaml_profile.specs.ScalarTexts.{IsScalar, IsKey, quoted, plain as plain_key}
+use Rattle.yaml_profile.specs.Spells.{Production, IsFlow, sequence as flow_sequence, mapping as flow_mapping, IsText, IsInline, IsBeside, nothing, same_line, later_line, IsDeeperOrSequence, IsEntry}
 use Rattle.yaml_profile.proofs.FineLemmas.{either, first_of_both, second_of_both}
 use Rattle.yaml_profile.proofs.SpellsPartLemmas.{Cuts, whole_cut}
 use Rattle.yaml_profile.proofs.SpellsScalarLemmas.{left_true, right_true, both_true, left_false, differ}
-use Rattle.yaml_profile.proofs.SpellsKeyLemmas.{refuted, feed_more}
-use Rattle.yaml_profile.proofs.SpellsFlowLemmas.{Distinct}
-use Rattle.yaml_profile.proofs.SpellsBlockLemmas.{node_gap, gap_more, line_begins, beside_gap, Lower}
-use Rattle.yaml_profile.proofs.SpellsBackSpaceLemmas.{when_true, when_false, when_ok, false_or, right_false, Splits, split, one_cut, white_over, no_white, gapless, IsStop, Led, line_led}
+use Rattle.yaml_profile.proofs.SpellsKeyLemmas.{refuted}
+use Rattle.yaml_profile.proofs.SpellsBlockLemmas.{node_gap, gap_more, beside_gap, Lower}
+use Rattle.yaml_profile.proofs.SpellsBackSpaceLemmas.{when_true, when_false, when_ok, false_or, right_false, split, white_over, no_white, gapless, IsStop, Led, line_led}
 use Rattle.yaml_profile.proofs.SpellsBackScalarLemmas.{IsBegun}
 use Rattle.yaml_profile.proofs.SpellsBackPlainLemmas.{KeyBack, key_back, scalar_back, node_ended, node_quote}
-use Rattle.yaml_profile.proofs.SpellsBackFlowLemmas.{new_name, distinct_along, admit, IsOver, inline_back}
+use Rattle.yaml_profile.proofs.SpellsBackFlowLemmas.{admit, IsOver, inline_back}
 
 -- ---- document markers
 
@@ -126,6 +124,7 @@ end_no_colon w (b ∷ t) e = refuted (b == 58) false (λ f. absurd (no w (subst 
   where
     P : ℕ → Type 0
     P c = (ends_line (c ∷ t) || (w && c == 35)) ≡ true
+
     no : (c : Bool) → (c && false) ≡ true → ⊥
     no true g = cc
     no false g = cc
@@ -157,7 +156,8 @@ pub record InlineText (column : ℕ) (t : Text) : Type 0 where
   pub no_key : has_key t ≡ false
   pub no_marker : is_marker (column, t) ≡ false
 
-text_inline : (column : ℕ) (x : Yaml) (s rest : Text) → IsText false x s → ends_node rest ≡ true → is_marker (column, s) ≡ false → InlineText column (s ++ rest)
+text_inline : (column : ℕ) (x : Yaml) (s rest : Text) → IsText false x s → ends_node rest ≡ true → is_marker (column, s) ≡ false
+    → InlineText column (s ++ rest)
 text_inline column x s rest h e m =
     let over = node_over false rest e in
     let k = scalar_back false h.text (s ++ rest) rest (record { part = s; whole = refl; holds = h.is_scalar }) over.no_quote over.ended in
@@ -165,6 +165,7 @@ text_inline column x s rest h e m =
   where
     quote : (b : ℕ) (u : Text) → s ≡ b ∷ u → (b == 45) ≡ false → (b == 46) ≡ false → is_marker (column, s ++ rest) ≡ false
     quote b u f g k = ap (λ (y : Text). is_marker (column, y ++ rest)) f ∙ other_marker column b (u ++ rest) g k
+
     marker : IsScalar false h.text s → is_marker (column, s ++ rest) ≡ false
     marker (inl (inl q)) = quote 39 _ q.quoted refl refl
     marker (inl (inr q)) = quote 34 q.second (q.parts ∙ ap (λ (y : Text). y ++ q.second) q.is_first) refl refl
@@ -178,7 +179,8 @@ flow_inline column P x s rest (flow_mapping ps same d h) =
     let e : s ++ rest ≡ 123 ∷ (h.second ++ rest) = ap (λ (y : Text). y ++ rest) (h.parts ∙ ap (λ (y : Text). y ++ h.second) h.is_first) in
     record { no_key = ap has_key e ∙ brace_no_key (h.second ++ rest); no_marker = ap (λ (y : Text). is_marker (column, y)) e ∙ other_marker column 123 (h.second ++ rest) refl refl }
 
-pub inline_text : (depth column : ℕ) (x : Yaml) (s rest : Text) → IsInline depth false x s → ends_node rest ≡ true → is_marker (column, s) ≡ false → InlineText column (s ++ rest)
+pub inline_text : (depth column : ℕ) (x : Yaml) (s rest : Text) → IsInline depth false x s → ends_node rest ≡ true → is_marker (column, s) ≡ false
+    → InlineText column (s ++ rest)
 unfolding IsInline
 inline_text zero column x s rest h e m = text_inline column x s rest h e m
 inline_text (suc depth) column x s rest (inl h) e m = text_inline column x s rest h e m
@@ -189,7 +191,8 @@ pub record AloneBack (depth : ℕ) (x : Yaml) (t : Text) (next : Option Line) : 
   pub reads : alone depth t ≡ Ok (x, next)
   pub begun : IsBegun t
 
-pub alone_back : (depth : ℕ) (x : Yaml) (t after : Text) (next : Option Line) → Cuts (IsInline depth false x) t after → Led after next → AloneBack depth x t next
+pub alone_back : (depth : ℕ) (x : Yaml) (t after : Text) (next : Option Line) → Cuts (IsInline depth false x) t after → Led after next
+    → AloneBack depth x t next
 unfolding alone
 alone_back depth x t after next c l =
     let k = inline_back depth false x t after c (node_over false after l.ends) in
@@ -233,6 +236,7 @@ level_outside column (Some l) a = go (nat_lt l.0 column) refl
   where
     same : nat_lt l.0 column ≡ false → l.0 ≡ column
     same e = let no = a.0 in let r : l.0 ≡ column = grind (arith, nat_tests) in r
+
     go : (c : Bool) → nat_lt l.0 column ≡ c → Outside true column (Some l)
     go true e = inl (let r : l.0 < column = grind (arith, nat_tests) in r)
     go false e =
@@ -241,12 +245,14 @@ level_outside column (Some l) a = go (nat_lt l.0 column) refl
         inr (refl, at, ap (λ (c : Bool). c && is_dash l.1) (sym eq) ∙ a.1)
 
 -- what stands on a later line
-below_none : (node : Node) (of_map : Bool) (column : ℕ) (next : Option Line) → Apart of_map column next → below node of_map column next ≡ Ok (Scalar [], next)
+below_none : (node : Node) (of_map : Bool) (column : ℕ) (next : Option Line) → Apart of_map column next
+    → below node of_map column next ≡ Ok (Scalar [], next)
 below_none node of_map column None a = refl
 below_none node of_map column (Some l) a =
     when_false (nat_lt column l.0) (node false l) _ a.0 ∙ when_false (of_map && (l.0 == column && is_dash l.1)) (node true l) (Ok (Scalar [], Some l)) a.1
 
-below_deeper : (node : Node) (of_map : Bool) (column deeper : ℕ) (t : Text) → column < deeper → below node of_map column (Some (deeper, t)) ≡ node false (deeper, t)
+below_deeper : (node : Node) (of_map : Bool) (column deeper : ℕ) (t : Text) → column < deeper
+    → below node of_map column (Some (deeper, t)) ≡ node false (deeper, t)
 below_deeper node of_map column deeper t less = let e : nat_lt column deeper ≡ true = grind (arith, nat_tests) in when_true (nat_lt column deeper) (node false (deeper, t)) _ e
 
 below_level : (node : Node) (column : ℕ) (t : Text) → is_dash t ≡ true → below node true column (Some (column, t)) ≡ node true (column, t)
@@ -256,7 +262,8 @@ below_level node column t d =
     when_false (nat_lt column column) (node false (column, t)) _ e ∙ when_true (true && (column == column && is_dash t)) (node true (column, t)) _ (both_true (column == column) _ f d)
 
 -- a node that a later line begins is read
-lower_back : (block : ℕ → Production) (node : Node) → BlockBack block node → (of_map : Bool) (column at : ℕ) (x : Yaml) (t after : Text) (next : Option Line) → Cuts (Lower of_map block column at x) t after
+lower_back : (block : ℕ → Production) (node : Node) → BlockBack block node
+    → (of_map : Bool) (column at : ℕ) (x : Yaml) (t after : Text) (next : Option Line) → Cuts (Lower of_map block column at x) t after
     → Led after next → Apart of_map column next → below node of_map column (Some (at, t)) ≡ Ok (x, next)
 lower_back block node back false column at x t after next c l a =
     let h = c.holds in
@@ -266,6 +273,7 @@ lower_back block node back true column at x t after next c l a = go c.holds.0
   where
     inner : Cuts (block at x) t after
     inner = record { part = c.part; whole = c.whole; holds = c.holds.1 }
+
     go : (column < at) ⊎ ((at ≡ column) × (is_dash c.part ≡ true)) → below node true column (Some (at, t)) ≡ Ok (x, next)
     go (inl less) = below_deeper node true column at t less ∙ back false at x t after next inner l (deeper_outside true column at next less a) (λ e. absurd cc)
     go (inr h) =
@@ -274,7 +282,8 @@ lower_back block node back true column at x t after next c l a = go c.holds.0
         let Q : ℕ → Type 0 = λ k. Outside true k next in
         subst P (sym h.0) (below_level node column t dash) ∙ back true at x t after next inner l (subst Q (sym h.0) (level_outside column next a)) (λ _. dash)
 
-lower_start : (block : ℕ → Production) → BlockStarts block → (of_map : Bool) (column at : ℕ) (x : Yaml) (t after : Text) → Cuts (Lower of_map block column at x) t after → ends_node after ≡ true → IsStart at t
+lower_start : (block : ℕ → Production) → BlockStarts block → (of_map : Bool) (column at : ℕ) (x : Yaml) (t after : Text)
+    → Cuts (Lower of_map block column at x) t after → ends_node after ≡ true → IsStart at t
 lower_start block starts true column at x t after c e = starts at x t after (record { part = c.part; whole = c.whole; holds = c.holds.1 }) e
 lower_start block starts false column at x t after c e = starts at x t after (record { part = c.part; whole = c.whole; holds = c.holds.1 }) e
 
@@ -297,7 +306,8 @@ stop_open s t e stop f =
     no_line [] k = k
     no_line (b ∷ u) k = right_false (is_white b) _ k
 
-pub beside_back : (depth : ℕ) (block : ℕ → Production) (node : Node) → BlockBack block node → BlockStarts block → (of_map : Bool) (column : ℕ) (x : Yaml) (v after : Text) (next : Option Line)
+pub beside_back : (depth : ℕ) (block : ℕ → Production) (node : Node) → BlockBack block node → BlockStarts block
+    → (of_map : Bool) (column : ℕ) (x : Yaml) (v after : Text) (next : Option Line)
     → IsBeside (IsInline depth false) (Lower of_map block column) x v → Led after next → Apart of_map column next → BesideBack node depth of_map column x (v ++ after) next
 beside_back depth block node back starts of_map column x v after next (nothing e f) l a =
     let P : Text → Type 0 = λ s. BesideBack node depth of_map column x (s ++ after) next in
@@ -328,7 +338,8 @@ beside_back depth block node back starts of_map column x v after next (later_lin
       open_text = λ e. absurd (differ led.ends e);
     }
 
-value_back : (depth : ℕ) (node : Node) (column : ℕ) (x : Yaml) (t : Text) (next : Option Line) → BesideBack node depth true column x t next → map_value node depth column t ≡ Ok (x, next)
+value_back : (depth : ℕ) (node : Node) (column : ℕ) (x : Yaml) (t : Text) (next : Option Line) → BesideBack node depth true column x t next
+    → map_value node depth column t ≡ Ok (x, next)
 unfolding map_value
 value_back depth node column x t next b = go (ends_node t) refl
   where
@@ -336,15 +347,17 @@ value_back depth node column x t next b = go (ends_node t) refl
     go true e = when_true (ends_node t) _ (alone depth (past_white t)) e ∙ b.later e
     go false e = when_false (ends_node t) _ (alone depth (past_white t)) e ∙ b.same e
 
-pub item_back : (depth : ℕ) (node : Node) (column : ℕ) (x : Yaml) (t : Text) (next : Option Line) → BesideBack node depth false column x t next → item node depth column t ≡ Ok (x, next)
+pub item_back : (depth : ℕ) (node : Node) (column : ℕ) (x : Yaml) (t : Text) (next : Option Line) → BesideBack node depth false column x t next
+    → item node depth column t ≡ Ok (x, next)
 unfolding item
 item_back depth node column x t next b = go (ends_node t) refl
   where
     rest : Blocks
     rest = unless (left_out (past_white t)) (past_white t) (cond (is_dash (past_white t) || has_key (past_white t)) (refuse (LeftOut Compact) (past_white t)) (alone depth (past_white t)))
+
     go : (c : Bool) → ends_node t ≡ c
         → cond (ends_node t) (next_line t >>= λ line. below node false column line)
-            (unless (left_out (past_white t)) (past_white t) (cond (is_dash (past_white t) || has_key (past_white t)) (refuse (LeftOut Compact) (past_white t)) (alone depth (past_white t)))) ≡ Ok (x, next)
+        (unless (left_out (past_white t)) (past_white t) (cond (is_dash (past_white t) || has_key (past_white t)) (refuse (LeftOut Compact) (past_white t)) (alone depth (past_white t)))) ≡ Ok (x, next)
     go true e = when_true (ends_node t) _ _ e ∙ b.later e
     go false e =
         let u = past_white t in
@@ -370,15 +383,12 @@ key_firm name key value (quoted h) =
 key_firm name key value (plain_key white w h e f) =
     let P : Text → Type 0 = λ y. Firm y in subst P (sym (e ∙ sym (append_assoc name white (58 ∷ [])))) (colon_firm (name ++ white))
 
-closes_gap : (t : Text) → closes false t ≡ true → is_gap t ≡ true
-closes_gap [] e = refl
-closes_gap (b ∷ t) e = either (is_gap (b ∷ t)) false (λ f. f) (λ f. absurd cc) e
-
 gap_closed : (t : Text) → is_gap t ≡ true → closes false t ≡ true
 gap_closed [] e = refl
 gap_closed (b ∷ t) e = left_true (is_gap (b ∷ t)) _ e
 
-pub entry_text : (inline : Production) (block : ℕ → Production) (column : ℕ) (p : Pair) (t after : Text) → Cuts (IsEntry inline block column p) t after → is_gap after ≡ true → EntryBack inline block column p t after
+pub entry_text : (inline : Production) (block : ℕ → Production) (column : ℕ) (p : Pair) (t after : Text)
+    → Cuts (IsEntry inline block column p) t after → is_gap after ≡ true → EntryBack inline block column p t after
 entry_text inline block column p t after c g =
     let h = c.holds in
     let rest = h.value ++ after in
@@ -400,17 +410,16 @@ entry_key_back name t rest k g =
     ap (λ (u : Text). cond (sees 58 u && is_gap (drop 1 u)) (Ok (name, drop 1 u)) (refuse Syntax t)) k.colon ∙ when_true (is_gap rest) (Ok (name, rest)) (refuse Syntax t) g in
     when_false (is_dash t) (refuse Syntax t) _ k.back.begins.begun.dash ∙ when_ok (scalar false t) (name, k.rest) (key_end t) k.back.reads ∙ last_step
 
-new_entry_back : (found : List Pair) (name t rest : Text) → KeyBack false name t rest → is_gap rest ≡ true → has_name name found ≡ false → new_entry found t ≡ Ok (name, rest)
+new_entry_back : (found : List Pair) (name t rest : Text) → KeyBack false name t rest → is_gap rest ≡ true → has_name name found ≡ false
+    → new_entry found t ≡ Ok (name, rest)
 unfolding new_entry
 new_entry_back found name t rest k g new =
     admit (left_out t) t _ k.back.begins.begun.out ∙ when_ok (entry_key t) (name, rest) (λ key. cond (has_name key.0 found) (refuse RepeatedKey t) (Ok key)) (entry_key_back name t rest k g)
     ∙ when_false (has_name name found) (refuse RepeatedKey t) (Ok (name, rest)) new
 
-entry_start : (inline : Production) (block : ℕ → Production) (column : ℕ) (p : Pair) (t after : Text) → Cuts (IsEntry inline block column p) t after → is_gap after ≡ true → IsStart column t
-entry_start inline block column p t after c g = let e = entry_text inline block column p t after c g in begun_start column t e.key.back.begins.begun e.no_marker
-
 -- the entry, and what comes after it
-pub one_entry : (depth : ℕ) (block : ℕ → Production) (node : Node) → BlockBack block node → BlockStarts block → (column n : ℕ) (found : List Pair) (p : Pair) (t after : Text) (next : Option Line)
+pub one_entry : (depth : ℕ) (block : ℕ → Production) (node : Node) → BlockBack block node → BlockStarts block
+    → (column n : ℕ) (found : List Pair) (p : Pair) (t after : Text) (next : Option Line)
     → Cuts (IsEntry (IsInline depth false) block column p) t after → Led after next → Apart true column next → has_name (name_of p) found ≡ false
     → entries node depth column (suc n) found t ≡ after_entry (Map (found ++ p ∷ [])) column (λ l. entries node depth column n (found ++ p ∷ []) l.1) next
 unfolding entries
@@ -422,7 +431,8 @@ one_entry depth block node back starts column n found p t after next c l a new =
     when_ok (new_entry found t) (name_of p, rest) (λ key. map_value node depth column key.1 >>= go key.0) (new_entry_back found (name_of p) t rest e.key e.gap new)
     ∙ when_ok (map_value node depth column rest) (value_of p, next) (go (name_of p)) (value_back depth node column (value_of p) rest next b)
 
-pub outside_apart : (of_map held : Bool) (column : ℕ) (next : Option Line) → (of_map ≡ true → held ≡ false) → Outside held column next → Apart of_map column next
+pub outside_apart : (of_map held : Bool) (column : ℕ) (next : Option Line) → (of_map ≡ true → held ≡ false) → Outside held column next
+    → Apart of_map column next
 outside_apart of_map held column None only o = tt
 outside_apart of_map held column (Some l) only (inl less) =
     let no : nat_lt column l.0 ≡ false = grind (arith, nat_tests) in
@@ -442,7 +452,8 @@ outside_apart of_map held column (Some l) only (inr h) =
     go false e = ap (λ (c : Bool). c && (l.0 == column && is_dash l.1)) e
 
 -- the line after a mapping ends it
-pub after_mapping : (whole : Yaml) (column : ℕ) (go_on : Line → Blocks) (next : Option Line) → Outside false column next → after_entry whole column go_on next ≡ Ok (whole, next)
+pub after_mapping : (whole : Yaml) (column : ℕ) (go_on : Line → Blocks) (next : Option Line) → Outside false column next
+    → after_entry whole column go_on next ≡ Ok (whole, next)
 after_mapping whole column go_on None o = refl
 after_mapping whole column go_on (Some l) (inl less) = let e : nat_lt l.0 column ≡ true = grind (arith, nat_tests) in when_true (nat_lt l.0 column) (Ok (whole, Some l)) _ e
 after_mapping whole column go_on (Some l) (inr h) = absurd cc

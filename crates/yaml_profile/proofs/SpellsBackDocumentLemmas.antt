@@ -1,29 +1,24 @@
 -- Each text that spells a tree is read as it.
-use Rattle.std.proofs.Common.{◌≡◌, ◌⊎◌, inl, inr, ℕ, Bool, true, false, ◌&&◌, ◌||◌, ◌==◌, cond, List, [], ◌∷◌, ◌++◌, length, ◌≤◌, drop, Option, Some, None, Result, Ok, Err, refl, sym, ap, subst, ◌∙◌}
+use Rattle.std.proofs.Common.{◌≡◌, ◌⊎◌, inl, inr, ℕ, Bool, true, false, ◌&&◌, ◌==◌, [], ◌∷◌, ◌++◌, length, ◌≤◌, drop, Option, Some, None, Result, Ok, Err, refl, sym, ap, subst, ◌∙◌}
 use Rattle.std.specs.Prelude.{IsUtf8}
 use Rattle.yaml_profile.specs.declared.fault.Refusal.{Refusal}
 use Rattle.yaml_profile.specs.declared.fault.Fault.TheVariants.{LeftOut, Syntax}
 use Rattle.yaml_profile.specs.declared.error.Feature.TheVariants.{Directive}
 use Rattle.yaml_profile.specs.declared.yaml.Yaml.{Yaml}
-use Rattle.yaml_profile.specs.declared.yaml.Yaml.TheVariants.{Scalar}
 use Rattle.yaml_profile.specs.Text.{Text, ◌>>=◌, refuse, sees, is_gap, past_white}
 use Rattle.yaml_profile.specs.Block.{Line, line_from, is_three, is_marker, without_marker, next_line, ends_node, block, root, behind_marker, begun, ended, document}
 use Rattle.yaml_profile.specs.Read.{yaml_of, placed}
-use Rattle.yaml_profile.specs.Space.{◌and_then◌, IsPassed, IsIndent, ToLine, IsBlankEnd, ToEnd}
-use Rattle.yaml_profile.specs.Spells.{IsBlock, IsMarked, IsStart, IsEmpty, Spells, node, empty}
+use Rattle.yaml_profile.specs.Space.{IsPassed, IsIndent, ToLine, ToEnd}
+use Rattle.yaml_profile.specs.Spells.{IsMarked, IsStart, IsEmpty, Spells, node, empty}
 use Rattle.yaml_profile.proofs.ReadLemmas.{placed_text}
 use Rattle.yaml_profile.proofs.FineLemmas.{first_of_both}
-use Rattle.yaml_profile.proofs.SpellsPartLemmas.{Cuts, whole_cut}
-use Rattle.yaml_profile.proofs.SpellsScalarLemmas.{left_true, both_true, left_false, differ}
+use Rattle.yaml_profile.proofs.SpellsPartLemmas.{Cuts, append_nil}
+use Rattle.yaml_profile.proofs.SpellsScalarLemmas.{left_true, both_true}
 use Rattle.yaml_profile.proofs.SpellsKeyLemmas.{refuted}
 use Rattle.yaml_profile.proofs.SpellsBlockLemmas.{node_gap}
-use Rattle.yaml_profile.proofs.SpellsBackSpaceLemmas.{when_true, when_false, when_ok, Splits, split, IsStop, indent_over, blank_end, Led, line_led, end_led}
+use Rattle.yaml_profile.proofs.SpellsBackSpaceLemmas.{when_true, when_false, when_ok, split, IsStop, indent_over, blank_end, Led, line_led, end_led}
 use Rattle.yaml_profile.proofs.SpellsBackBlockLemmas.{IsStart as IsLineStart}
 use Rattle.yaml_profile.proofs.SpellsBackNodeLemmas.{block_starts, block_back}
-
-append_nil : (s : Text) → s ≡ s ++ []
-append_nil [] = refl
-append_nil (b ∷ s) = ap (λ (x : Text). b ∷ x) (append_nil s)
 
 all_cut : {P : Text → Type 0} (t : Text) → P t → Cuts P t []
 all_cut t p = record { part = t; whole = append_nil t; holds = p }
@@ -99,6 +94,7 @@ read_by t next tree e f = go (line_from (Some 0) t) refl
   where
     rest : Option Line → Result Yaml Refusal
     rest line = root line >>= ended
+
     go : (o : First) → line_from (Some 0) t ≡ o → (line_from (Some 0) t >>= λ first. begun first >>= λ line. root line >>= ended) ≡ Ok tree
     go (Ok first) k =
         ap (λ (r : First). r >>= λ x. begun x >>= λ line. root line >>= ended) k

@@ -1,9 +1,8 @@
 -- The texts of inline nodes are read as such.
-use Rattle.std.proofs.Common.{◌≡◌, ◌⊎◌, inl, inr, ℕ, zero, suc, ◌+◌, ◌<◌, Bool, true, false, ◌&&◌, ◌||◌, ◌==◌, cond, List, [], ◌∷◌, ◌++◌, length, drop, map, Option, Some, None, Result, Ok, Err, refl, sym, ap, subst, ◌∙◌, append_assoc, arith}
+use Rattle.std.proofs.Common.{◌≡◌, ◌⊎◌, inl, inr, ℕ, zero, suc, ◌<◌, Bool, true, false, ◌||◌, ◌==◌, cond, List, [], ◌∷◌, ◌++◌, length, drop, map, Option, None, Result, Ok, refl, sym, ap, subst, ◌∙◌, append_assoc, arith}
 use Rattle.std.specs.Prelude.{bytes_eq}
-use Rattle.std.proofs.lemmas.List.{length-append}
 use Rattle.std.proofs.lemmas.Slice.Eq.{bytes_eq-Decides}
-use Rattle.file_info.specs.Lists.{In, IsDistinct}
+use Rattle.file_info.specs.Lists.{In}
 use Rattle.yaml_profile.specs.declared.error.Feature.{Feature}
 use Rattle.yaml_profile.specs.declared.fault.Refusal.{Refusal}
 use Rattle.yaml_profile.specs.declared.fault.Fault.TheVariants.{RepeatedKey, Syntax}
@@ -17,16 +16,14 @@ use Rattle.yaml_profile.specs.Flow.{Reader, left_out, unless, items, after_item,
 use Rattle.yaml_profile.specs.Tree.{name_of}
 use Rattle.yaml_profile.specs.Tree as tree
 use Rattle.yaml_profile.specs.Space.{◌and_then◌, Is, IsSpace}
-use Rattle.yaml_profile.specs.ScalarTexts.{IsScalar, IsKey}
 use Rattle.yaml_profile.specs.Spells.{Production, IsListed, none, last, more, IsFlowValue, IsFlowPair, IsFlow, sequence, mapping, IsText, IsInline}
-use Rattle.yaml_profile.proofs.FineLemmas.{either}
-use Rattle.yaml_profile.proofs.SpellsPartLemmas.{Cuts, chain, widen, whole_cut, no_part, IsFull}
+use Rattle.yaml_profile.proofs.SpellsPartLemmas.{Cuts, widen, whole_cut, no_part, IsFull, full_shorter}
 use Rattle.yaml_profile.proofs.SpellsScalarLemmas.{right_true}
-use Rattle.yaml_profile.proofs.SpellsKeyLemmas.{closes_weaker, feed_more, append_full, full_append, full_by, gap_closes, mark_seen}
+use Rattle.yaml_profile.proofs.SpellsKeyLemmas.{closes_weaker, feed_more, full_append, full_by, gap_closes}
 use Rattle.yaml_profile.proofs.SpellsSpaceLemmas.{gap_begins}
 use Rattle.yaml_profile.proofs.SpellsFlowLemmas.{Distinct, seq_none, map_none}
-use Rattle.yaml_profile.proofs.SpellsBackSpaceLemmas.{when_true, when_false, when_ok, false_or, Splits, split, one_cut, IsStop, space_passed}
-use Rattle.yaml_profile.proofs.SpellsBackScalarLemmas.{IsBegun, IsScalarBegun, ScalarBack}
+use Rattle.yaml_profile.proofs.SpellsBackSpaceLemmas.{when_true, when_false, when_ok, false_or, split, one_cut, space_passed}
+use Rattle.yaml_profile.proofs.SpellsBackScalarLemmas.{IsBegun, ScalarBack}
 use Rattle.yaml_profile.proofs.SpellsBackPlainLemmas.{Ended, scalar_back, KeyBack, key_back, IsMark, IsClosed, closed_ended, closed_quote, mark_at, mark_stops}
 
 -- ---- names
@@ -72,7 +69,8 @@ record Between (P : Text → Type 0) (b : ℕ) (t rest : Text) : Type 0 where
   closed : IsClosed after
   mark : spaced after ≡ b ∷ rest
 
-between : (P : Text → Type 0) (b : ℕ) (t rest : Text) → Cuts (IsSpace and_then P and_then IsSpace and_then Is b) t rest → is_flow_mark b ≡ true → Between P b t rest
+between : (P : Text → Type 0) (b : ℕ) (t rest : Text) → Cuts (IsSpace and_then P and_then IsSpace and_then Is b) t rest → is_flow_mark b ≡ true
+    → Between P b t rest
 between P b t rest c m =
     let k = split c in
     let l = split k.back in
@@ -89,10 +87,6 @@ mark_full P Q R b s h =
     let second : IsFull h.second = full_by (k.first ++ k.second) h.second k.parts (full_append k.first k.second third) in
     full_by (h.first ++ h.second) s h.parts (full_append h.first h.second second)
 
-full_shorter : (s t : Text) → IsFull s → length t < length (s ++ t)
-full_shorter [] t f = absurd (f refl)
-full_shorter (b ∷ s) t f = let l = length-append s t in omega arith
-
 -- ---- flow sequences
 
 -- the texts of a node are read as it, up to space and a mark
@@ -107,7 +101,8 @@ abbrev item_from : Reader Yaml → ℕ → List Yaml → Text → Trees
 item_from node n found u =
     cond (sees 93 u) (Ok (Seq found, drop 1 u)) (node u >>= λ item. after_item (items node n) (found ++ item.0 ∷ []) (spaced item.1))
 
-one_item : (P : Production) (node : Reader Yaml) → NodeBack P node → (n : ℕ) (found : List Yaml) (x : Yaml) (b : ℕ) (t rest : Text) → is_flow_mark b ≡ true
+one_item : (P : Production) (node : Reader Yaml) → NodeBack P node → (n : ℕ) (found : List Yaml) (x : Yaml) (b : ℕ) (t rest : Text)
+    → is_flow_mark b ≡ true
     → Cuts (IsSpace and_then P x and_then IsSpace and_then Is b) t rest → items node (suc n) found t ≡ after_item (items node n) (found ++ x ∷ []) (b ∷ rest)
 unfolding items
 one_item P node back n found x b t rest m c =
@@ -118,7 +113,8 @@ one_item P node back n found x b t rest m c =
     ∙ when_ok (node k.start) (x, k.after) (λ item. after_item (items node n) (found ++ item.0 ∷ []) (spaced item.1)) r.0
     ∙ ap (after_item (items node n) (found ++ x ∷ [])) k.mark
 
-items_back : (P : Production) (node : Reader Yaml) → NodeBack P node → (n : ℕ) (found xs : List Yaml) (s rest : Text) → IsListed 93 P xs s → length (s ++ rest) < n
+items_back : (P : Production) (node : Reader Yaml) → NodeBack P node → (n : ℕ) (found xs : List Yaml) (s rest : Text) → IsListed 93 P xs s
+    → length (s ++ rest) < n
     → items node n found (s ++ rest) ≡ Ok (Seq (found ++ xs), rest)
 unfolding items
 items_back P node back zero found xs s rest h less = absurd (omega arith)
@@ -158,7 +154,8 @@ record ValueBack (node : Reader Yaml) (x : Yaml) (rest : Text) (b : ℕ) (t : Te
 abbrev value_from : Reader Yaml → Text → Text → Trees
 value_from node t w = cond (sees 58 w) (value_or_none node (spaced (drop 1 w))) (refuse Syntax (spaced t))
 
-value_back : (P : Production) (node : Reader Yaml) → NodeBack P node → (x : Yaml) (value after rest t : Text) (b : ℕ) → IsFlowValue P x value → past_white rest ≡ 58 ∷ (value ++ after) → IsClosed after
+value_back : (P : Production) (node : Reader Yaml) → NodeBack P node → (x : Yaml) (value after rest t : Text) (b : ℕ) → IsFlowValue P x value
+    → past_white rest ≡ 58 ∷ (value ++ after) → IsClosed after
     → spaced after ≡ b ∷ t → is_flow_mark b ≡ true → (b == 44 || b == 125) ≡ true → ValueBack node x rest b t
 unfolding value_of
 value_back P node back x value after rest t b (inl h) colon closed mark m two =
@@ -190,14 +187,16 @@ key_read found name t rest k new =
     admit (left_out t) t _ k.begins.begun.out ∙ when_ok (scalar true t) (name, rest) (λ key. cond (has_name key.0 found) (refuse RepeatedKey t) (Ok key)) k.reads
     ∙ when_false (has_name name found) (refuse RepeatedKey t) (Ok (name, rest)) new
 
-pair_key : (P : Production) (p : Pair) (start after : Text) → IsClosed after → (c : Cuts (IsFlowPair P p) start after) → KeyBack true (name_of p) start (c.holds.value ++ after)
+pair_key : (P : Production) (p : Pair) (start after : Text) → IsClosed after → (c : Cuts (IsFlowPair P p) start after)
+    → KeyBack true (name_of p) start (c.holds.value ++ after)
 pair_key P p start after closed c =
     let h = c.holds in
     let whole : start ≡ h.key ++ (h.value ++ after) = c.whole ∙ ap (λ (x : Text). x ++ after) h.parts ∙ append_assoc h.key h.value after in
     let Q : Text → Type 0 = λ x. KeyBack true (name_of p) x (h.value ++ after) in
     subst Q (sym whole) (key_back true (name_of p) h.key h.value (h.value ++ after) h.is_key (value_closes h.value after (closed_closes after closed)))
 
-one_pair : (P : Production) (node : Reader Yaml) → NodeBack P node → (n : ℕ) (found : List Pair) (p : Pair) (b : ℕ) (t rest : Text) → is_flow_mark b ≡ true → (b == 44 || b == 125) ≡ true
+one_pair : (P : Production) (node : Reader Yaml) → NodeBack P node → (n : ℕ) (found : List Pair) (p : Pair) (b : ℕ) (t rest : Text)
+    → is_flow_mark b ≡ true → (b == 44 || b == 125) ≡ true
     → has_name (name_of p) found ≡ false → Cuts (IsSpace and_then IsFlowPair P p and_then IsSpace and_then Is b) t rest
     → pairs node (suc n) found t ≡ after_pair (pairs node n) (found ++ p ∷ []) (b ∷ rest)
 unfolding pairs
@@ -213,7 +212,8 @@ one_pair P node back n found p b t rest m two new c =
     ∙ when_ok (value_of node key.rest) (tree.value_of p, value.end) (λ v. after_pair (pairs node n) (found ++ pair (name_of p) v.0 ∷ []) (spaced v.1)) value.reads
     ∙ ap (after_pair (pairs node n) (found ++ p ∷ [])) value.mark
 
-pairs_back : (P : Production) (node : Reader Yaml) → NodeBack P node → (n : ℕ) (found ps : List Pair) (s rest : Text) → IsListed 125 (IsFlowPair P) ps s → length (s ++ rest) < n → Distinct (found ++ ps)
+pairs_back : (P : Production) (node : Reader Yaml) → NodeBack P node → (n : ℕ) (found ps : List Pair) (s rest : Text)
+    → IsListed 125 (IsFlowPair P) ps s → length (s ++ rest) < n → Distinct (found ++ ps)
     → pairs node n found (s ++ rest) ≡ Ok (Map (found ++ ps), rest)
 unfolding pairs
 pairs_back P node back zero found ps s rest h less d = absurd (omega arith)
@@ -245,7 +245,7 @@ text_back flow x t rest seq map c over =
     let h = c.holds in
     let k = scalar_back flow h.text t rest (widen (λ s n. n) (record { part = c.part; whole = c.whole; holds = h.is_scalar })) over.no_quote over.ended in (
       admit (left_out t) t _ k.begins.begun.out ∙ when_false (sees 91 t) seq _ k.begins.no_sequence ∙ when_false (sees 123 t) map _ k.begins.no_mapping
-      ∙ when_ok (scalar flow t) (h.text, rest) text_of k.reads ∙ ap (λ (y : Yaml). Ok (y, rest)) (sym h.same),
+          ∙ when_ok (scalar flow t) (h.text, rest) text_of k.reads ∙ ap (λ (y : Yaml). Ok (y, rest)) (sym h.same),
       k.begins.begun,
     )
 
@@ -258,14 +258,15 @@ bracket_begun t = record { stop = record { no_gap = refl; no_hash = refl }; out 
 brace_begun : (t : Text) → IsBegun (123 ∷ t)
 brace_begun t = record { stop = record { no_gap = refl; no_hash = refl }; out = refl; dash = refl; percent = refl; comma = refl; bracket = refl; brace = refl }
 
-flow_back : (depth : ℕ) (flow : Bool) (x : Yaml) (t s rest : Text) → NodeBack (IsInline depth true) (inline depth true) → t ≡ s ++ rest → IsFlow (IsInline depth true) x s → InlineBack (suc depth) flow x t rest
+flow_back : (depth : ℕ) (flow : Bool) (x : Yaml) (t s rest : Text) → NodeBack (IsInline depth true) (inline depth true) → t ≡ s ++ rest
+    → IsFlow (IsInline depth true) x s → InlineBack (suc depth) flow x t rest
 unfolding inline
 flow_back depth flow x t s rest back e (sequence xs same h) =
     let u = h.second ++ rest in
     let whole : t ≡ 91 ∷ u = e ∙ ap (λ (y : Text). y ++ rest) (h.parts ∙ ap (λ (y : Text). y ++ h.second) h.is_first) in
     let Q : Text → Type 0 = λ y. IsBegun y in (
       ap (inline (suc depth) flow) whole ∙ items_back (IsInline depth true) (inline depth true) back (suc (length u)) [] xs h.second rest h.is_second (omega arith)
-      ∙ ap (λ (y : Yaml). Ok (y, rest)) (sym same),
+          ∙ ap (λ (y : Yaml). Ok (y, rest)) (sym same),
       subst Q (sym whole) (bracket_begun u),
     )
 flow_back depth flow x t s rest back e (mapping ps same d h) =
@@ -273,17 +274,19 @@ flow_back depth flow x t s rest back e (mapping ps same d h) =
     let whole : t ≡ 123 ∷ u = e ∙ ap (λ (y : Text). y ++ rest) (h.parts ∙ ap (λ (y : Text). y ++ h.second) h.is_first) in
     let Q : Text → Type 0 = λ y. IsBegun y in (
       ap (inline (suc depth) flow) whole ∙ pairs_back (IsInline depth true) (inline depth true) back (suc (length u)) [] ps h.second rest h.is_second (omega arith) d
-      ∙ ap (λ (y : Yaml). Ok (y, rest)) (sym same),
+          ∙ ap (λ (y : Yaml). Ok (y, rest)) (sym same),
       subst Q (sym whole) (brace_begun u),
     )
 
-deeper_back : (depth : ℕ) (flow : Bool) (x : Yaml) (t s rest : Text) → NodeBack (IsInline depth true) (inline depth true) → t ≡ s ++ rest → IsText flow x s ⊎ IsFlow (IsInline depth true) x s → IsOver flow rest
+deeper_back : (depth : ℕ) (flow : Bool) (x : Yaml) (t s rest : Text) → NodeBack (IsInline depth true) (inline depth true) → t ≡ s ++ rest
+    → IsText flow x s ⊎ IsFlow (IsInline depth true) x s → IsOver flow rest
     → InlineBack (suc depth) flow x t rest
 unfolding inline
 deeper_back depth flow x t s rest back e (inl h) over = text_back flow x t rest _ _ (record { part = s; whole = e; holds = h }) over
 deeper_back depth flow x t s rest back e (inr h) over = flow_back depth flow x t s rest back e h
 
-pub inline_back : (depth : ℕ) (flow : Bool) (x : Yaml) (t rest : Text) → Cuts (IsInline depth flow x) t rest → IsOver flow rest → InlineBack depth flow x t rest
+pub inline_back : (depth : ℕ) (flow : Bool) (x : Yaml) (t rest : Text) → Cuts (IsInline depth flow x) t rest → IsOver flow rest
+    → InlineBack depth flow x t rest
 unfolding inline IsInline
 inline_back zero flow x t rest c over = text_back flow x t rest _ _ c over
 inline_back (suc depth) flow x t rest c over =

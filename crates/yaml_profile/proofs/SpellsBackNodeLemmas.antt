@@ -1,26 +1,25 @@
 -- The texts of block collections are read as such.
-use Rattle.std.proofs.Common.{◌≡◌, ◌⊎◌, inl, inr, ℕ, zero, suc, ◌+◌, ◌<◌, Bool, true, false, ◌&&◌, ◌||◌, ◌==◌, cond, nat_lt, List, [], ◌∷◌, ◌++◌, length, drop, Option, Some, None, Result, Ok, Err, refl, sym, ap, subst, ◌∙◌, append_assoc, arith}
+use Rattle.std.proofs.Common.{◌≡◌, ◌⊎◌, inl, inr, ℕ, zero, suc, ◌<◌, Bool, true, false, ◌&&◌, ◌||◌, ◌==◌, cond, nat_lt, List, [], ◌∷◌, ◌++◌, length, drop, Option, Some, None, Ok, refl, sym, ap, subst, ◌∙◌, append_assoc, arith}
 use Rattle.std.proofs.lemmas.Bool.Decides.{nat_tests}
-use Rattle.std.proofs.lemmas.List.{length-append}
-use Rattle.yaml_profile.specs.declared.fault.Fault.TheVariants.{TooDeep, Syntax}
+use Rattle.yaml_profile.specs.declared.fault.Fault.TheVariants.{Syntax}
 use Rattle.yaml_profile.specs.declared.yaml.Yaml.{Yaml}
 use Rattle.yaml_profile.specs.declared.yaml.Yaml.TheVariants.{Seq, Map}
 use Rattle.yaml_profile.specs.declared.yaml.Pair.{Pair}
-use Rattle.yaml_profile.specs.Text.{Text, ◌>>=◌, refuse, sees, is_gap}
+use Rattle.yaml_profile.specs.Text.{Text, refuse, sees, is_gap}
 use Rattle.yaml_profile.specs.Flow.{left_out, unless}
 use Rattle.yaml_profile.specs.Block.{Line, Blocks, Node, is_three, is_marker, ends_node, alone, is_dash, is_found, has_key, item, after_entry, entries, after_dash, dashes, block}
-use Rattle.yaml_profile.specs.Space.{◌and_then◌, Is, IsBreak, ToLine}
+use Rattle.yaml_profile.specs.Space.{◌and_then◌, IsBreak, ToLine}
 use Rattle.yaml_profile.specs.Spells.{Production, IsInline, IsJoined, last, more, IsDeeper, IsItem, IsEntry, IsBlockCollection, sequence, mapping, IsLineNode, IsBlock}
 use Rattle.yaml_profile.proofs.FineLemmas.{either, first_of_both, second_of_both}
-use Rattle.yaml_profile.proofs.SpellsPartLemmas.{Cuts, whole_cut, IsFull}
-use Rattle.yaml_profile.proofs.SpellsScalarLemmas.{both_true, differ}
+use Rattle.yaml_profile.proofs.SpellsPartLemmas.{Cuts, whole_cut, IsFull, full_shorter}
+use Rattle.yaml_profile.proofs.SpellsScalarLemmas.{differ}
 use Rattle.yaml_profile.proofs.SpellsKeyLemmas.{refuted, append_full, full_append, full_by}
 use Rattle.yaml_profile.proofs.SpellsFlowLemmas.{Distinct}
 use Rattle.yaml_profile.proofs.SpellsBlockLemmas.{node_gap, gap_more, line_begins, beside_gap}
-use Rattle.yaml_profile.proofs.SpellsBackSpaceLemmas.{when_true, when_false, when_ok, false_or, Splits, split, one_cut, IsStop, Led, line_led}
+use Rattle.yaml_profile.proofs.SpellsBackSpaceLemmas.{when_true, when_false, when_ok, split, one_cut, Led, line_led}
 use Rattle.yaml_profile.proofs.SpellsBackScalarLemmas.{IsBegun}
 use Rattle.yaml_profile.proofs.SpellsBackFlowLemmas.{new_name, distinct_along, admit, inline_back}
-use Rattle.yaml_profile.proofs.SpellsBackBlockLemmas.{gap_other, IsStart, begun_start, node_over, InlineText, inline_text, alone_back, Apart, Outside, BlockBack, BlockStarts, dash_more, beside_back, item_back, entry_text, entry_key_back, one_entry, outside_apart, after_mapping, at_column}
+use Rattle.yaml_profile.proofs.SpellsBackBlockLemmas.{gap_other, IsStart, begun_start, node_over, inline_text, alone_back, Apart, Outside, BlockBack, BlockStarts, beside_back, item_back, entry_text, entry_key_back, one_entry, outside_apart, after_mapping, at_column}
 
 -- ---- lines
 
@@ -36,10 +35,6 @@ line_full column s h =
 entry_full : {P : Text → Type 0} (column : ℕ) (s : Text) → (P and_then ToLine column) s → IsFull s
 entry_full column s h = full_by (h.first ++ h.second) s h.parts (full_append h.first h.second (line_full column h.second h.is_second))
 
-full_shorter : (s t : Text) → IsFull s → length t < length (s ++ t)
-full_shorter [] t f = absurd (f refl)
-full_shorter (b ∷ s) t f = let l = length-append s t in omega arith
-
 -- ---- mappings
 
 -- the text of entries, with what ends their last line
@@ -49,13 +44,15 @@ record EntriesText (column : ℕ) (t : Text) : Type 0 where
   out : left_out t ≡ None
   key : has_key t ≡ true
 
-entry_first : (inline : Production) (block : ℕ → Production) (column : ℕ) (p : Pair) (t after : Text) → Cuts (IsEntry inline block column p) t after → is_gap after ≡ true → EntriesText column t
+entry_first : (inline : Production) (block : ℕ → Production) (column : ℕ) (p : Pair) (t after : Text) → Cuts (IsEntry inline block column p) t after
+    → is_gap after ≡ true → EntriesText column t
 entry_first inline block column p t after c g =
     let e = entry_text inline block column p t after c g in
     let b = e.key.back.begins.begun in
     record { start = begun_start column t b e.no_marker; dash = b.dash; out = b.out; key = ap is_found (entry_key_back _ t (e.value ++ after) e.key e.gap) }
 
-entries_text : (inline : Production) (block : ℕ → Production) (column : ℕ) (ps : List Pair) (s after : Text) → IsJoined column (IsEntry inline block column) ps s → is_gap after ≡ true → EntriesText column (s ++ after)
+entries_text : (inline : Production) (block : ℕ → Production) (column : ℕ) (ps : List Pair) (s after : Text)
+    → IsJoined column (IsEntry inline block column) ps s → is_gap after ≡ true → EntriesText column (s ++ after)
 entries_text inline block column ps s after (last {x = p} h) g = entry_first inline block column p (s ++ after) after (whole_cut s after h) g
 entries_text inline block column ps s after (more {x = p} first rest h j e) g =
     let u = rest ++ after in
@@ -64,7 +61,8 @@ entries_text inline block column ps s after (more {x = p} first rest h j e) g =
     let P : Text → Type 0 = λ x. EntriesText column x in
     subst P (sym (ap (λ (x : Text). x ++ after) e ∙ append_assoc first rest after)) (entry_first inline block column p (first ++ u) k.middle k.front gap)
 
-entries_back : (depth : ℕ) (block : ℕ → Production) (node : Node) → BlockBack block node → BlockStarts block → (column n : ℕ) (found ps : List Pair) (s after : Text) (next : Option Line)
+entries_back : (depth : ℕ) (block : ℕ → Production) (node : Node) → BlockBack block node → BlockStarts block
+    → (column n : ℕ) (found ps : List Pair) (s after : Text) (next : Option Line)
     → IsJoined column (IsEntry (IsInline depth false) block column) ps s → Led after next → Outside false column next → Distinct (found ++ ps) → length (s ++ after) < n
     → entries node depth column n found (s ++ after) ≡ Ok (Map (found ++ ps), next)
 entries_back depth block node back starts column zero found ps s after next j l o d less = absurd (omega arith)
@@ -111,13 +109,15 @@ dash_text column t g = record {
   out = refl;
 }
 
-item_first : (inline : Production) (block : ℕ → Production) (column : ℕ) (x : Yaml) (t after : Text) → Cuts (IsItem inline block column x) t after → is_gap after ≡ true → ItemsText column t
+item_first : (inline : Production) (block : ℕ → Production) (column : ℕ) (x : Yaml) (t after : Text) → Cuts (IsItem inline block column x) t after
+    → is_gap after ≡ true → ItemsText column t
 item_first inline block column x t after c g =
     let k = split c in
     let gap : is_gap k.middle ≡ true = ap is_gap k.back.whole ∙ gap_more k.back.part after (beside_gap inline (IsDeeper block column) x k.back.part k.back.holds) g in
     let P : Text → Type 0 = λ y. ItemsText column y in subst P (sym (one_cut k.front)) (dash_text column k.middle gap)
 
-items_text : (inline : Production) (block : ℕ → Production) (column : ℕ) (xs : List Yaml) (s after : Text) → IsJoined column (IsItem inline block column) xs s → is_gap after ≡ true → ItemsText column (s ++ after)
+items_text : (inline : Production) (block : ℕ → Production) (column : ℕ) (xs : List Yaml) (s after : Text)
+    → IsJoined column (IsItem inline block column) xs s → is_gap after ≡ true → ItemsText column (s ++ after)
 items_text inline block column xs s after (last {x = x} h) g = item_first inline block column x (s ++ after) after (whole_cut s after h) g
 items_text inline block column xs s after (more {x = x} first rest h j e) g =
     let u = rest ++ after in
@@ -127,7 +127,8 @@ items_text inline block column xs s after (more {x = x} first rest h j e) g =
     subst P (sym (ap (λ (y : Text). y ++ after) e ∙ append_assoc first rest after)) (item_first inline block column x (first ++ u) k.middle k.front gap)
 
 -- the item, and what comes after it
-one_item : (depth : ℕ) (block : ℕ → Production) (node : Node) → BlockBack block node → BlockStarts block → (held : Bool) (column n : ℕ) (found : List Yaml) (x : Yaml) (t after : Text) (next : Option Line)
+one_item : (depth : ℕ) (block : ℕ → Production) (node : Node) → BlockBack block node → BlockStarts block
+    → (held : Bool) (column n : ℕ) (found : List Yaml) (x : Yaml) (t after : Text) (next : Option Line)
     → Cuts (IsItem (IsInline depth false) block column x) t after → Led after next → Apart false column next
     → dashes node depth held column (suc n) found t
     ≡ after_entry (Seq (found ++ x ∷ [])) column (after_dash held (Seq (found ++ x ∷ [])) (dashes node depth held column n (found ++ x ∷ []))) next
@@ -135,13 +136,14 @@ unfolding dashes
 one_item depth block node back starts held column n found x t after next c l a =
     let k = split c in
     let rest : Yaml × Option Line → Blocks = λ v.
-        after_entry (Seq (found ++ v.0 ∷ [])) column (after_dash held (Seq (found ++ v.0 ∷ [])) (dashes node depth held column n (found ++ v.0 ∷ []))) v.1 in
+    after_entry (Seq (found ++ v.0 ∷ [])) column (after_dash held (Seq (found ++ v.0 ∷ [])) (dashes node depth held column n (found ++ v.0 ∷ []))) v.1 in
     let b = beside_back depth block node back starts false column x k.back.part after next k.back.holds l a in
     ap (dashes node depth held column (suc n) found) (one_cut k.front ∙ ap (λ (y : Text). 45 ∷ y) k.back.whole)
     ∙ when_ok (item node depth column (k.back.part ++ after)) (x, next) rest (item_back depth node column x (k.back.part ++ after) next b)
 
 -- the line after a sequence ends it
-after_sequence : (held : Bool) (whole : Yaml) (column : ℕ) (go_on : Text → Blocks) (next : Option Line) → Outside held column next → after_entry whole column (after_dash held whole go_on) next ≡ Ok (whole, next)
+after_sequence : (held : Bool) (whole : Yaml) (column : ℕ) (go_on : Text → Blocks) (next : Option Line) → Outside held column next
+    → after_entry whole column (after_dash held whole go_on) next ≡ Ok (whole, next)
 after_sequence held whole column go_on None o = refl
 after_sequence held whole column go_on (Some l) (inl less) = let e : nat_lt l.0 column ≡ true = grind (arith, nat_tests) in when_true (nat_lt l.0 column) (Ok (whole, Some l)) _ e
 after_sequence held whole column go_on (Some l) (inr h) =
@@ -151,7 +153,8 @@ after_sequence held whole column go_on (Some l) (inr h) =
     when_false (nat_lt l.0 column) (Ok (whole, Some l)) _ e ∙ when_false (nat_lt column l.0) _ (after_dash held whole go_on l) f
     ∙ when_false (is_dash l.1) (go_on l.1) _ h.2 ∙ when_true held (Ok (whole, Some l)) (refuse Syntax l.1) h.0
 
-dashes_back : (depth : ℕ) (block : ℕ → Production) (node : Node) → BlockBack block node → BlockStarts block → (held : Bool) (column n : ℕ) (found xs : List Yaml) (s after : Text) (next : Option Line)
+dashes_back : (depth : ℕ) (block : ℕ → Production) (node : Node) → BlockBack block node → BlockStarts block
+    → (held : Bool) (column n : ℕ) (found xs : List Yaml) (s after : Text) (next : Option Line)
     → IsJoined column (IsItem (IsInline depth false) block column) xs s → Led after next → Outside held column next → length (s ++ after) < n
     → dashes node depth held column n found (s ++ after) ≡ Ok (Seq (found ++ xs), next)
 dashes_back depth block node back starts held column zero found xs s after next j l o less = absurd (omega arith)
@@ -183,7 +186,8 @@ record LineText (depth column : ℕ) (x : Yaml) (t : Text) (next : Option Line) 
   begun : IsBegun t
   no_key : has_key t ≡ false
 
-line_text : (depth column : ℕ) (x : Yaml) (t after : Text) (next : Option Line) → Cuts (IsLineNode depth column x) t after → Led after next → LineText depth column x t next
+line_text : (depth column : ℕ) (x : Yaml) (t after : Text) (next : Option Line) → Cuts (IsLineNode depth column x) t after → Led after next
+    → LineText depth column x t next
 line_text depth column x t after next c l =
     let a = alone_back depth x t after next (record { part = c.part; whole = c.whole; holds = c.holds.0 }) l in
     record { reads = a.reads; begun = a.begun; no_key = ap has_key c.whole ∙ (inline_text depth column x c.part after c.holds.0 l.ends c.holds.1).no_key }
@@ -194,7 +198,8 @@ line_start depth column x t after c e =
     begun_start column t (inline_back depth false x t after inner (node_over false after e)).1
     (ap (λ (y : Text). is_marker (column, y)) c.whole ∙ (inline_text depth column x c.part after c.holds.0 e c.holds.1).no_marker)
 
-collection_start : (inline : Production) (block : ℕ → Production) (column : ℕ) (x : Yaml) (s after : Text) → IsBlockCollection inline block column x s → ends_node after ≡ true → IsStart column (s ++ after)
+collection_start : (inline : Production) (block : ℕ → Production) (column : ℕ) (x : Yaml) (s after : Text)
+    → IsBlockCollection inline block column x s → ends_node after ≡ true → IsStart column (s ++ after)
 collection_start inline block column x s after (sequence xs same j) e = (items_text inline block column xs s after j (node_gap after e)).start
 collection_start inline block column x s after (mapping ps same d j) e = (entries_text inline block column ps s after j (node_gap after e)).start
 

@@ -1,25 +1,22 @@
 -- The texts of plain scalars and of keys are read as such.
-use Rattle.std.proofs.Common.{◌≡◌, ◌⊎◌, inl, inr, ℕ, zero, suc, ◌+◌, ◌<◌, Bool, true, false, not, ◌&&◌, ◌||◌, ◌==◌, cond, nat_lt, List, [], ◌∷◌, ◌++◌, length, take, drop, Option, Some, None, Result, Ok, Err, refl, sym, ap, subst, ◌∙◌, append_assoc, arith}
+use Rattle.std.proofs.Common.{◌≡◌, inl, inr, ℕ, suc, ◌+◌, Bool, true, false, not, ◌&&◌, ◌||◌, ◌==◌, cond, [], ◌∷◌, ◌++◌, length, take, drop, Some, None, Result, Ok, refl, sym, ap, subst, ◌∙◌, append_assoc, arith}
 use Rattle.std.proofs.lemmas.Bool.{eqb-true}
-use Rattle.std.proofs.lemmas.List.{length-append}
 use Rattle.std.proofs.Math.Seq.{drop-append_seam, take-append_seam}
-use Rattle.yaml_profile.specs.declared.error.Feature.{Feature}
 use Rattle.yaml_profile.specs.declared.error.Feature.TheVariants.{Anchor, Alias, Tag, BlockScalar, ExplicitKey}
 use Rattle.yaml_profile.specs.declared.fault.Refusal.{Refusal}
 use Rattle.yaml_profile.specs.declared.fault.Fault.TheVariants.{Syntax}
-use Rattle.yaml_profile.specs.Text.{Text, ◌>>=◌, refuse, sees, is_white, ends_line, is_gap, is_flow_mark, past_white}
+use Rattle.yaml_profile.specs.Text.{Text, refuse, sees, is_white, ends_line, is_gap, is_flow_mark, past_white}
 use Rattle.yaml_profile.specs.Scalar.{begins_plain, is_indicator, ends_plain, plain_len, plain_of, is_forbidden, has_forbidden, plain, scalar, closes}
-use Rattle.yaml_profile.specs.Flow.{left_out}
-use Rattle.yaml_profile.specs.Block.{is_dash, begins_white, ends_node}
-use Rattle.yaml_profile.specs.Space.{◌and_then◌, Many, none, more, Is, IsWhite, IsSomeWhite, IsBreak, IsComment, IsGap, IsGapOrComment, IsSpace}
+use Rattle.yaml_profile.specs.Block.{begins_white, ends_node}
+use Rattle.yaml_profile.specs.Space.{◌and_then◌, Many, none, more, Is, IsWhite, IsSomeWhite, IsComment, IsGap, IsGapOrComment, IsSpace}
 use Rattle.yaml_profile.specs.ScalarTexts.{IsQuoted, GoesOn, IsPlain, IsScalar, IsKey, quoted, plain as plain_key}
 use Rattle.yaml_profile.proofs.FineLemmas.{either, first_of_both, second_of_both}
-use Rattle.yaml_profile.proofs.SpellsPartLemmas.{Cuts, widen, IsFull}
+use Rattle.yaml_profile.proofs.SpellsPartLemmas.{Cuts, IsFull}
 use Rattle.yaml_profile.proofs.SpellsSpaceLemmas.{gap_begins}
 use Rattle.yaml_profile.proofs.SpellsScalarLemmas.{left_true, right_true, both_true, left_false, differ}
-use Rattle.yaml_profile.proofs.SpellsKeyLemmas.{refuted, not_true, true_not}
-use Rattle.yaml_profile.proofs.SpellsBackSpaceLemmas.{when_true, when_false, when_ok, false_or, right_false, Splits, split, one_cut, white_over, no_white, IsStop, break_ends}
-use Rattle.yaml_profile.proofs.SpellsBackScalarLemmas.{IsBegun, IsScalarBegun, ScalarBack, quoted_scalar}
+use Rattle.yaml_profile.proofs.SpellsKeyLemmas.{refuted, not_true, true_not, gap_closes}
+use Rattle.yaml_profile.proofs.SpellsBackSpaceLemmas.{when_true, when_false, false_or, right_false, white_over, IsStop, break_ends}
+use Rattle.yaml_profile.proofs.SpellsBackScalarLemmas.{IsScalarBegun, ScalarBack, quoted_scalar}
 
 -- ---- what a plain scalar begins with
 
@@ -31,10 +28,6 @@ false_and true true f = absurd (f refl refl)
 false_and true false f = refl
 false_and false y f = refl
 
-gap_closes : (flow : Bool) (t : Text) → is_gap t ≡ true → closes flow t ≡ true
-gap_closes flow [] e = refl
-gap_closes flow (b ∷ t) e = left_true (is_gap (b ∷ t)) _ e
-
 pub plain_begun : (flow : Bool) (t : Text) → begins_plain flow t ≡ true → IsScalarBegun t
 plain_begun flow [] e = absurd cc
 plain_begun flow (b ∷ t) e =
@@ -43,9 +36,9 @@ plain_begun flow (b ∷ t) e =
     let unclosed : (kind && closes flow t) ≡ false = not_true (kind && closes flow t) (second_of_both (not (is_gap (b ∷ t) || is_indicator b)) (not (kind && closes flow t)) e) in
     let i = right_false (is_gap (b ∷ t)) (is_indicator b) black in
     let dash : (b == 45 && is_gap t) ≡ false = false_and (b == 45) (is_gap t)
-        (λ f g. differ (both_true kind (closes flow t) (left_true (b == 45 || b == 63) _ (left_true (b == 45) _ f)) (gap_closes flow t g)) unclosed) in
+    (λ f g. differ (both_true kind (closes flow t) (left_true (b == 45 || b == 63) _ (left_true (b == 45) _ f)) (gap_closes flow t g)) unclosed) in
     let mark : (b == 63 && is_gap t) ≡ false = false_and (b == 63) (is_gap t)
-        (λ f g. differ (both_true kind (closes flow t) (left_true (b == 45 || b == 63) _ (right_true (b == 45) _ f)) (gap_closes flow t g)) unclosed) in
+    (λ f g. differ (both_true kind (closes flow t) (left_true (b == 45 || b == 63) _ (right_true (b == 45) _ f)) (gap_closes flow t g)) unclosed) in
     record {
       begun = record {
         stop = record { no_gap = left_false (is_gap (b ∷ t)) _ black; no_hash = other_byte b 35 refl i };
@@ -83,7 +76,8 @@ gap_keep b r s n e = either (is_white b) (ends_line (b ∷ r)) (λ f. left_true 
 closes_keep : (flow : Bool) (b : ℕ) (r s : Text) → (b == 13) ≡ false → closes flow (b ∷ r) ≡ true → closes flow (b ∷ s) ≡ true
 closes_keep flow b r s n e = either (is_gap (b ∷ r)) (flow && is_flow_mark b) (λ f. left_true (is_gap (b ∷ s)) _ (gap_keep b r s n f)) (λ f. right_true (is_gap (b ∷ s)) _ f) e
 
-ends_keep : (flow white : Bool) (b : ℕ) (r s : Text) → (b == 13) ≡ false → (closes flow r ≡ true → closes flow s ≡ true) → ends_plain flow white (b ∷ r) ≡ true → ends_plain flow white (b ∷ s) ≡ true
+ends_keep : (flow white : Bool) (b : ℕ) (r s : Text) → (b == 13) ≡ false → (closes flow r ≡ true → closes flow s ≡ true)
+    → ends_plain flow white (b ∷ r) ≡ true → ends_plain flow white (b ∷ s) ≡ true
 ends_keep flow white b r s n c e =
     let mark = flow && is_flow_mark b in
     let hash = white && b == 35 in
@@ -95,20 +89,25 @@ ends_keep flow white b r s n c e =
     (λ g. right_true (ends_line (b ∷ s) || (b == 58 && closes flow s)) mark g) f))
     (λ f. right_true (ends_line (b ∷ s) || (b == 58 && closes flow s) || mark) hash f) e
 
-closes_kept : (flow : Bool) (v r s : Text) → has_forbidden v ≡ false → (closes flow r ≡ true → closes flow s ≡ true) → closes flow (v ++ r) ≡ true → closes flow (v ++ s) ≡ true
+closes_kept : (flow : Bool) (v r s : Text) → has_forbidden v ≡ false → (closes flow r ≡ true → closes flow s ≡ true) → closes flow (v ++ r) ≡ true
+    → closes flow (v ++ s) ≡ true
 unfolding has_forbidden
 closes_kept flow [] r s n c e = c e
 closes_kept flow (b ∷ v) r s n c e = closes_keep flow b (v ++ r) (v ++ s) (no_return b (left_false (is_forbidden b) _ n)) e
 
-goes_back : (flow white : Bool) (v r s : Text) → has_forbidden v ≡ false → (closes flow r ≡ true → closes flow s ≡ true) → GoesOn flow white v s → GoesOn flow white v r
+goes_back : (flow white : Bool) (v r s : Text) → has_forbidden v ≡ false → (closes flow r ≡ true → closes flow s ≡ true) → GoesOn flow white v s
+    → GoesOn flow white v r
 unfolding has_forbidden
 goes_back flow white [] r s n c h = h
 goes_back flow white (b ∷ v) r s n c h =
-    let rest = right_false (is_forbidden b) (has_forbidden v) n in
-    (refuted (ends_plain flow white (b ∷ (v ++ r))) (ends_plain flow white (b ∷ (v ++ s)))
-    (ends_keep flow white b (v ++ r) (v ++ s) (no_return b (left_false (is_forbidden b) _ n)) (closes_kept flow v r s rest c)) h.0, goes_back flow (is_white b) v r s rest c h.1)
+    let rest = right_false (is_forbidden b) (has_forbidden v) n in (
+      refuted (ends_plain flow white (b ∷ (v ++ r))) (ends_plain flow white (b ∷ (v ++ s)))
+          (ends_keep flow white b (v ++ r) (v ++ s) (no_return b (left_false (is_forbidden b) _ n)) (closes_kept flow v r s rest c)) h.0,
+      goes_back flow (is_white b) v r s rest c h.1,
+    )
 
-begins_back : (flow : Bool) (b : ℕ) (r s : Text) → (b == 13) ≡ false → (closes flow r ≡ true → closes flow s ≡ true) → begins_plain flow (b ∷ s) ≡ true → begins_plain flow (b ∷ r) ≡ true
+begins_back : (flow : Bool) (b : ℕ) (r s : Text) → (b == 13) ≡ false → (closes flow r ≡ true → closes flow s ≡ true)
+    → begins_plain flow (b ∷ s) ≡ true → begins_plain flow (b ∷ r) ≡ true
 begins_back flow b r s n c e =
     let kind = b == 45 || b == 63 || b == 58 in
     let x = not (is_gap (b ∷ s) || is_indicator b) in
@@ -127,7 +126,8 @@ begins_back flow b r s n c e =
 abbrev pub Ended : Bool → Text → Type 0
 Ended flow t = (at len : ℕ) → plain_len flow false at len t ≡ len
 
-len_over : (flow white : Bool) (at len : ℕ) (s t : Text) → GoesOn flow white s t → (white ≡ false → len ≡ at) → Ended flow t → plain_len flow white at len (s ++ t) ≡ at + length s
+len_over : (flow white : Bool) (at len : ℕ) (s t : Text) → GoesOn flow white s t → (white ≡ false → len ≡ at) → Ended flow t
+    → plain_len flow white at len (s ++ t) ≡ at + length s
 unfolding plain_len
 len_over flow white at len [] t goes same ended =
     let P : Bool → Type 0 = λ w. plain_len flow w at len t ≡ len in subst P (sym goes) (ended at len) ∙ same goes ∙ omega arith
@@ -141,7 +141,8 @@ len_over flow white at len (b ∷ s) t goes same ended =
     go true e p q = let P : Bool → Type 0 = λ w. GoesOn flow w s t in p (subst P e goes.1) ∙ omega arith
     go false e p q = let P : Bool → Type 0 = λ w. GoesOn flow w s t in q (subst P e goes.1) ∙ omega arith
 
-plain_reads : (flow : Bool) (b : ℕ) (v t : Text) → begins_plain flow (b ∷ (v ++ t)) ≡ true → GoesOn flow false v t → has_forbidden (b ∷ v) ≡ false → Ended flow t
+plain_reads : (flow : Bool) (b : ℕ) (v t : Text) → begins_plain flow (b ∷ (v ++ t)) ≡ true → GoesOn flow false v t → has_forbidden (b ∷ v) ≡ false
+    → Ended flow t
     → plain flow (b ∷ (v ++ t)) ≡ Ok (b ∷ v, t)
 unfolding plain
 plain_reads flow b v t begins goes allowed ended =
@@ -153,7 +154,8 @@ plain_reads flow b v t begins goes allowed ended =
     when_true (begins_plain flow whole) (plain_of whole (plain_len flow false 1 1 (v ++ t))) _ begins ∙ ap (plain_of whole) len
     ∙ ap (λ (x : Text). pick x (drop (suc (length v)) whole)) front ∙ ap (λ (y : Text). pick (b ∷ v) y) back ∙ when_false (has_forbidden (b ∷ v)) (refuse Syntax whole) (Ok (b ∷ v, t)) allowed
 
-pub plain_back : (flow : Bool) (v next t : Text) → IsPlain flow v next → IsFull v → (closes flow t ≡ true → closes flow next ≡ true) → Ended flow t → ScalarBack flow v (v ++ t) t
+pub plain_back : (flow : Bool) (v next t : Text) → IsPlain flow v next → IsFull v → (closes flow t ≡ true → closes flow next ≡ true) → Ended flow t
+    → ScalarBack flow v (v ++ t) t
 unfolding scalar has_forbidden
 plain_back flow [] next t h full c ended = absurd (full refl)
 plain_back flow (b ∷ v) next t h full c ended =
@@ -207,6 +209,7 @@ black b flow white t w e =
     no true false k = cc
     no false true k = cc
     no false false k = cc
+
     at : (k : ℕ) → b ≡ k → (ends_plain flow white (k ∷ t) ≡ true → ⊥) → ⊥
     at k f g = let P : ℕ → Type 0 = λ c. ends_plain flow white (c ∷ t) ≡ true in g (subst P f e)
 
@@ -218,7 +221,8 @@ white_no_end b flow white t w = go (ends_plain flow white (b ∷ t)) refl
     go false e = e
 
 -- one white byte further
-len_white : (flow white : Bool) (at len b : ℕ) (t : Text) → is_white b ≡ true → plain_len flow white at len (b ∷ t) ≡ plain_len flow true (at + 1) len t
+len_white : (flow white : Bool) (at len b : ℕ) (t : Text) → is_white b ≡ true
+    → plain_len flow white at len (b ∷ t) ≡ plain_len flow true (at + 1) len t
 unfolding plain_len
 len_white flow white at len b t w =
     when_false (ends_plain flow white (b ∷ t)) len _ (white_no_end b flow white t w) ∙ when_true (is_white b) (plain_len flow true (at + 1) len t) _ w
@@ -228,7 +232,8 @@ unfolding plain_len
 len_end flow white at len [] e = refl
 len_end flow white at len (b ∷ t) e = when_true (ends_plain flow white (b ∷ t)) len _ e
 
-white_ended : (flow white : Bool) (at len : ℕ) (w t : Text) → IsWhite w → ((c : Bool) → ends_plain flow c t ≡ true) → plain_len flow white at len (w ++ t) ≡ len
+white_ended : (flow white : Bool) (at len : ℕ) (w t : Text) → IsWhite w → ((c : Bool) → ends_plain flow c t ≡ true)
+    → plain_len flow white at len (w ++ t) ≡ len
 white_ended flow white at len [] t h e = len_end flow white at len t (e white)
 white_ended flow white at len (b ∷ w) t h e = len_white flow white at len b (w ++ t) h.0 ∙ white_ended flow true (at + 1) len w t h.1 e
 
@@ -245,7 +250,8 @@ no_colon_begins flow [] h = refl
 no_colon_begins flow (b ∷ w) h =
     ap (λ (c : Bool). not c && not ((b == 45 || b == 63 || b == 58) && closes flow (w ++ 58 ∷ []))) (left_true (is_gap (b ∷ (w ++ 58 ∷ []))) _ (left_true (is_white b) _ h.0))
 
-plain_key_back : (flow : Bool) (name white after : Text) → IsWhite white → IsPlain flow name (white ++ 58 ∷ []) → closes flow after ≡ true → KeyBack flow name ((name ++ (white ++ 58 ∷ [])) ++ after) after
+plain_key_back : (flow : Bool) (name white after : Text) → IsWhite white → IsPlain flow name (white ++ 58 ∷ []) → closes flow after ≡ true
+    → KeyBack flow name ((name ++ (white ++ 58 ∷ [])) ++ after) after
 plain_key_back flow name white after w h c =
     let rest = white ++ 58 ∷ after in
     let same : name ++ rest ≡ (name ++ (white ++ 58 ∷ [])) ++ after = ap (λ (x : Text). name ++ x) (sym (append_assoc white (58 ∷ []) after)) ∙ sym (append_assoc name (white ++ 58 ∷ []) after) in
@@ -262,7 +268,7 @@ quoted_key_back flow name key after h =
     let k = h.is_second in
     let rest = k.first ++ 58 ∷ after in
     let same : h.first ++ rest ≡ key ++ after = ap (λ (x : Text). h.first ++ x) (sym (append_assoc k.first (58 ∷ []) after)) ∙ sym (append_assoc h.first (k.first ++ 58 ∷ []) after)
-        ∙ ap (λ (x : Text). x ++ after) (ap (λ (x : Text). h.first ++ x) (ap (λ (x : Text). k.first ++ x) (sym k.is_second) ∙ sym k.parts) ∙ sym h.parts) in
+    ∙ ap (λ (x : Text). x ++ after) (ap (λ (x : Text). h.first ++ x) (ap (λ (x : Text). k.first ++ x) (sym k.is_second) ∙ sym k.parts) ∙ sym h.parts) in
     let P : Text → Type 0 = λ x. ScalarBack flow name x rest in
     record {
       rest = rest;
@@ -270,14 +276,16 @@ quoted_key_back flow name key after h =
       colon = colon_white k.first after k.is_first;
     }
 
-pub key_back : (flow : Bool) (name key value after : Text) → IsKey flow name key value → (closes flow value ≡ true → closes flow after ≡ true) → KeyBack flow name (key ++ after) after
+pub key_back : (flow : Bool) (name key value after : Text) → IsKey flow name key value → (closes flow value ≡ true → closes flow after ≡ true)
+    → KeyBack flow name (key ++ after) after
 key_back flow name key value after (quoted h) c = quoted_key_back flow name key after h
 key_back flow name key value after (plain_key white w h e f) c =
     let P : Text → Type 0 = λ x. KeyBack flow name (x ++ after) after in subst P (sym e) (plain_key_back flow name white after w h (c f))
 
 -- ---- what ends a plain scalar
 
-node_len : (flow white : Bool) (at len : ℕ) (t : Text) → (ends_line (past_white t) || ((white || begins_white t) && sees 35 (past_white t))) ≡ true → plain_len flow white at len t ≡ len
+node_len : (flow white : Bool) (at len : ℕ) (t : Text) → (ends_line (past_white t) || ((white || begins_white t) && sees 35 (past_white t))) ≡ true
+    → plain_len flow white at len t ≡ len
 unfolding past_white plain_len
 node_len flow white at len [] e = refl
 node_len flow white at len (b ∷ t) e = go (is_white b) refl e (node_len flow true (at + 1) len t)
@@ -296,9 +304,6 @@ node_len flow white at len (b ∷ t) e = go (is_white b) refl e (node_len flow t
 
 pub node_ended : (flow : Bool) (t : Text) → ends_node t ≡ true → Ended flow t
 node_ended flow t e at len = node_len flow false at len t e
-
-white_no_quote : (b : ℕ) → is_white b ≡ true → (b == 39) ≡ false
-white_no_quote b w = refuted (b == 39) (not (is_white b)) (λ e. ap (λ (c : ℕ). not (is_white c)) (eqb-true b 39 e)) (ap not w)
 
 pub node_quote : (t : Text) → is_gap t ≡ true → sees 39 t ≡ false
 node_quote [] e = refl
@@ -371,9 +376,6 @@ pub record IsClosed (t : Text) : Type 0 where
 pub closed_ended : (t : Text) → IsClosed t → Ended true t
 closed_ended t c at len = ap (plain_len true false at len) c.space.whole ∙ space_run at len c.space.part c.mark c.space.holds c.is_mark
 
-not_not : (c : Bool) → c ≡ true → not c ≡ false
-not_not c e = ap not e
-
 mark_quote : (t : Text) → IsMark t → sees 39 t ≡ false
 mark_quote t m = ap (sees 39) m.parts ∙ refuted (m.byte == 39) (not (is_flow_mark m.byte)) (λ e. ap (λ (c : ℕ). not (is_flow_mark c)) (eqb-true m.byte 39 e)) (ap not m.is_mark)
 
@@ -391,6 +393,7 @@ mark_stop t m = record { no_gap = ap is_gap m.parts ∙ black_mark m.byte m.rest
   where
     not_byte : (b k : ℕ) → is_flow_mark k ≡ false → is_flow_mark b ≡ true → (b == k) ≡ false
     not_byte b k n e = refuted (b == k) (not (is_flow_mark b)) (λ f. ap not (ap is_flow_mark (eqb-true b k f) ∙ n)) (ap not e)
+
     black_mark : (b : ℕ) (rest : Text) → is_flow_mark b ≡ true → is_gap (b ∷ rest) ≡ false
     black_mark b rest e =
         false_or (is_white b) (ends_line (b ∷ rest)) (false_or (b == 32) (b == 9) (not_byte b 32 refl e) (not_byte b 9 refl e))

@@ -1,33 +1,26 @@
 -- The texts of scalars and keys are read as such.
-use Rattle.std.proofs.Common.{◌≡◌, ◌⊎◌, inl, inr, ℕ, zero, suc, ◌+◌, ◌*◌, ◌<◌, Bool, true, false, not, ◌&&◌, ◌||◌, ◌==◌, cond, nat_lt, List, [], ◌∷◌, ◌++◌, length, map, take, drop, Option, Some, None, Result, Ok, Err, refl, sym, ap, subst, ◌∙◌, append_assoc, arith}
+use Rattle.std.proofs.Common.{◌≡◌, ◌⊎◌, inl, inr, ℕ, zero, suc, ◌+◌, ◌*◌, ◌<◌, Bool, true, false, ◌&&◌, ◌||◌, ◌==◌, cond, List, [], ◌∷◌, ◌++◌, length, map, drop, Option, Some, None, Result, Ok, refl, sym, ap, subst, ◌∙◌, append_assoc, arith}
 use Rattle.std.specs.Prelude.{flat_map, encode_utf8}
 use Rattle.std.proofs.lemmas.Bool.{eqb-true}
 use Rattle.std.proofs.lemmas.List.{length-append}
-use Rattle.std.proofs.Math.Seq.{drop-append_seam, take-append_seam}
 use Rattle.yaml_profile.specs.declared.fault.Refusal.{Refusal}
 use Rattle.yaml_profile.specs.declared.fault.Fault.TheVariants.{Syntax}
-use Rattle.yaml_profile.specs.Text.{Text, ◌>>=◌, refuse, sees, is_white, ends_line, is_gap, is_flow_mark, past_white}
-use Rattle.yaml_profile.specs.Scalar.{single, hex, hex_value, hex_digits, short_escape, by_kind, escape, is_scalar_value, double, double_quoted, begins_plain, is_indicator, ends_plain, plain_len, plain_of, is_forbidden, has_forbidden, plain, scalar, closes}
+use Rattle.yaml_profile.specs.Text.{Text, refuse, sees, ends_line}
+use Rattle.yaml_profile.specs.Scalar.{single, hex, hex_value, hex_digits, short_escape, by_kind, escape, is_scalar_value, double, scalar}
 use Rattle.yaml_profile.specs.Flow.{left_out}
-use Rattle.yaml_profile.specs.Block.{is_dash, begins_white, ends_node}
+use Rattle.yaml_profile.specs.Block.{is_dash}
 use Rattle.yaml_profile.specs.Tree.{Each}
-use Rattle.yaml_profile.specs.Space.{◌and_then◌, Many, none, more, Is, IsWhite, IsSomeWhite, IsBreak, IsComment, IsGap, IsGapOrComment, IsSpace}
-use Rattle.yaml_profile.specs.ScalarTexts.{in_single, IsSingle, number_of, IsShort, IsNumbered, IsEscape, InDouble, none as empty, byte, escape as escaped, IsQuoted, GoesOn, IsPlain, IsScalar, IsKey, quoted, plain as plain_key}
-use Rattle.yaml_profile.proofs.FineLemmas.{either, first_of_both, second_of_both}
-use Rattle.yaml_profile.proofs.SpellsPartLemmas.{Cuts, widen, IsFull}
-use Rattle.yaml_profile.proofs.SpellsScalarLemmas.{left_true, right_true, both_true, left_false, differ}
-use Rattle.yaml_profile.proofs.SpellsKeyLemmas.{refuted, not_true, true_not}
-use Rattle.yaml_profile.proofs.SpellsBackSpaceLemmas.{when_true, when_false, when_ok, false_or, right_false, Splits, split, one_cut, white_over, no_white, IsStop}
+use Rattle.yaml_profile.specs.Space.{◌and_then◌, Is}
+use Rattle.yaml_profile.specs.ScalarTexts.{in_single, IsSingle, number_of, IsNumbered, IsEscape, InDouble, none as empty, byte, escape as escaped, IsQuoted}
+use Rattle.yaml_profile.proofs.SpellsPartLemmas.{append_nil}
+use Rattle.yaml_profile.proofs.SpellsScalarLemmas.{left_false}
+use Rattle.yaml_profile.proofs.SpellsBackSpaceLemmas.{when_true, when_false, when_ok, false_or, right_false, IsStop}
 
 abbrev Found : Type 0
 Found = Result (List ℕ × Text) Refusal
 
 abbrev found : List ℕ → Text → Found
 found v rest = Ok (v, rest)
-
-append_nil : (s : Text) → s ++ [] ≡ s
-append_nil [] = refl
-append_nil (b ∷ s) = ap (λ (x : Text). b ∷ x) (append_nil s)
 
 -- ---- single-quoted
 
@@ -49,11 +42,12 @@ single_end v (b ∷ t) e = when_false (b == 39) (single (v ++ 39 ∷ []) false t
 
 single_back : (v w : List ℕ) (t : Text) → OneLine w → sees 39 t ≡ false → single v false (flat_map in_single w ++ 39 ∷ t) ≡ found (v ++ w) t
 unfolding single
-single_back v [] t h e = single_end v t e ∙ ap (λ (x : List ℕ). found x t) (sym (append_nil v))
+single_back v [] t h e = single_end v t e ∙ ap (λ (x : List ℕ). found x t) (append_nil v)
 single_back v (b ∷ w) t h e = go (b == 39) refl (single_back (v ++ 39 ∷ []) w t h.1 e) (single_back (v ++ b ∷ []) w t h.1 e)
   where
     tail : Text
     tail = flat_map in_single w ++ 39 ∷ t
+
     go : (c : Bool) → (b == 39) ≡ c → single (v ++ 39 ∷ []) false tail ≡ found ((v ++ 39 ∷ []) ++ w) t → single (v ++ b ∷ []) false tail ≡ found ((v ++ b ∷ []) ++ w) t
         → single v false ((cond c (39 ∷ 39 ∷ []) (b ∷ []) ++ flat_map in_single w) ++ 39 ∷ t) ≡ found (v ++ b ∷ w) t
     go true f p q = p ∙ ap (λ (x : List ℕ). found x t) (append_assoc v (39 ∷ []) w ∙ ap (λ (c : ℕ). v ++ c ∷ w) (sym (eqb-true b 39 f)))
@@ -76,7 +70,8 @@ first_of (x ∷ xs) = x
 no_some : (code : ℕ) (o : Option ℕ) → o ≡ None → o ≡ Some code → ⊥
 no_some code o e f = cc
 
-hex_back : (whole digits : Text) (values : List ℕ) (number : ℕ) (t : Text) → map hex_value digits ≡ map (λ v. Some v) values → is_scalar_value (number_of number values) ≡ true
+hex_back : (whole digits : Text) (values : List ℕ) (number : ℕ) (t : Text) → map hex_value digits ≡ map (λ v. Some v) values
+    → is_scalar_value (number_of number values) ≡ true
     → hex whole (length digits) number (digits ++ t) ≡ Ok (number_of number values, t)
 unfolding hex
 hex_back whole [] [] number t e valid = when_true (is_scalar_value number) (Ok (number, t)) (refuse Syntax whole) valid
@@ -128,7 +123,7 @@ double_head v s t (escaped code first w u e h f g) =
 double_back : (n : ℕ) (v w s t : Text) → InDouble w s → length s < n → double n v (s ++ 34 ∷ t) ≡ found (v ++ w) t
 unfolding double
 double_back zero v w s t h less = absurd (omega arith)
-double_back (suc n) v w s t empty less = ap (λ (x : List ℕ). found x t) (sym (append_nil v))
+double_back (suc n) v w s t empty less = ap (λ (x : List ℕ). found x t) (append_nil v)
 double_back (suc n) v w s t (byte {v = x} {t = u} b e h) less =
     let rest = u ++ 34 ∷ t in
     let quote = left_false (b == 34) (b == 92) (left_false (b == 34 || b == 92) _ e) in

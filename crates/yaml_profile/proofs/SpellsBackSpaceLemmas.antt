@@ -1,17 +1,15 @@
 -- White, comments and breaks are passed where they are read.
-use Rattle.std.proofs.Common.{◌≡◌, ◌⊎◌, inl, inr, ℕ, zero, suc, ◌+◌, ◌<◌, Bool, true, false, ◌&&◌, ◌||◌, ◌==◌, cond, List, [], ◌∷◌, ◌++◌, length, drop, replicate, Option, Some, None, Result, Ok, Err, refl, sym, ap, subst, ◌∙◌, append_assoc, arith}
+use Rattle.std.proofs.Common.{◌≡◌, inl, inr, ℕ, zero, suc, ◌+◌, Bool, true, false, ◌&&◌, ◌||◌, ◌==◌, cond, [], ◌∷◌, ◌++◌, drop, replicate, Option, Some, None, Result, Ok, refl, sym, ap, subst, ◌∙◌, append_assoc, arith}
 use Rattle.std.proofs.lemmas.Bool.{eqb-true}
-use Rattle.std.proofs.lemmas.Bool.Decides.{nat_tests}
-use Rattle.std.proofs.lemmas.Grind.{common_steps}
 use Rattle.yaml_profile.specs.declared.fault.Refusal.{Refusal}
 use Rattle.yaml_profile.specs.declared.text.Between.{Between}
 use Rattle.yaml_profile.specs.declared.text.Between.TheVariants.{AfterByte, AfterWhite, InComment}
-use Rattle.yaml_profile.specs.Text.{Text, ◌>>=◌, sees, is_white, ends_line, is_gap, past_white, next_between, past_space, spaced}
+use Rattle.yaml_profile.specs.Text.{Text, ◌>>=◌, sees, is_white, ends_line, is_gap, past_white, past_space, spaced}
 use Rattle.yaml_profile.specs.Block.{Line, is_blank, passed, line_from, is_marker, without_marker, next_line, begins_white, ends_node}
 use Rattle.yaml_profile.specs.Tree.{Each}
 use Rattle.yaml_profile.specs.Space.{◌and_then◌, Many, none, more, Is, IsWhite, IsSomeWhite, IsBreak, IsComment, IsGap, IsGapOrComment, IsSpace, IsLineRest, IsBlankLine, IsPassed, IsIndent, ToLine, IsBlankEnd, ToEnd}
-use Rattle.yaml_profile.proofs.FineLemmas.{pick, either, first_of_both, second_of_both}
-use Rattle.yaml_profile.proofs.SpellsPartLemmas.{Cuts, widen}
+use Rattle.yaml_profile.proofs.FineLemmas.{either}
+use Rattle.yaml_profile.proofs.SpellsPartLemmas.{Cuts, append_nil}
 use Rattle.yaml_profile.proofs.SpellsScalarLemmas.{left_true, right_true, both_true, left_false, differ}
 
 -- ---- choices
@@ -45,10 +43,6 @@ split {rest = rest} c = let h = c.holds in record {
   front = record { part = h.first; whole = c.whole ∙ ap (λ (s : Text). s ++ rest) h.parts ∙ append_assoc h.first h.second rest; holds = h.is_first };
   back = record { part = h.second; whole = refl; holds = h.is_second };
 }
-
--- of a part, what is so of each text that it begins
-pub along_cut : {P : Text → Type 0} {t rest : Text} (Q : Text → Type 0) → Cuts P t rest → ((s : Text) → P s → Q (s ++ rest)) → Q t
-along_cut Q c f = subst Q (sym c.whole) (f c.part c.holds)
 
 pub one_cut : {c : ℕ} {t rest : Text} → Cuts (Is c) t rest → t ≡ c ∷ rest
 one_cut {rest = rest} k = k.whole ∙ ap (λ (s : Text). s ++ rest) k.holds
@@ -263,7 +257,8 @@ blank_less b s e (inl h) = inl h.1
 blank_less b s e (inr h) = blank_by b s h.first h.second e h.parts h.is_first h.is_second
 
 -- where a blank line leads, if its end leads there
-blank_over : (k : ℕ) (s t : Text) (o : Result (Option Line) Refusal) → IsBlankLine s → LineEnd t → line_from None t ≡ o → ((n : ℕ) → line_from (Some n) t ≡ o)
+blank_over : (k : ℕ) (s t : Text) (o : Result (Option Line) Refusal) → IsBlankLine s → LineEnd t → line_from None t ≡ o
+    → ((n : ℕ) → line_from (Some n) t ≡ o)
     → line_from (Some k) (s ++ t) ≡ o
 unfolding line_from
 blank_over k [] t o h e over here = here k
@@ -294,10 +289,6 @@ passed_over : (s t : Text) → IsPassed s → line_from (Some 0) (s ++ t) ≡ li
 passed_over s t none = refl
 passed_over s t (more first rest p h e) =
     ap (line_from (Some 0)) (ap (λ (x : Text). x ++ t) e ∙ append_assoc first rest t) ∙ line_over first (rest ++ t) p ∙ passed_over rest t h
-
-append_nil : (s : Text) → s ≡ s ++ []
-append_nil [] = refl
-append_nil (b ∷ s) = ap (λ (x : Text). b ∷ x) (append_nil s)
 
 end_over : (s : Text) → IsBlankEnd s → line_from (Some 0) s ≡ Ok None
 end_over s h =

@@ -14,10 +14,10 @@ use Rattle.yaml_profile.specs.Block.{Line, Blocks, Node, is_three, is_marker, ne
 use Rattle.yaml_profile.specs.Space.{Is, IsSomeWhite, IsLineRest, ToLine}
 use Rattle.yaml_profile.specs.Spells.{Production, IsInline, IsJoined, last, more, IsBeside, nothing, same_line, later_line, IsDeeper, IsDeeperOrSequence, IsItem, IsEntry, sequence, mapping, IsLineNode, IsBlock}
 use Rattle.yaml_profile.proofs.FineLemmas.{bind, choose, allowed, either, first_of_both, second_of_both}
-use Rattle.yaml_profile.proofs.SpellsPartLemmas.{Cuts, chain, widen, no_part, seen_byte}
+use Rattle.yaml_profile.proofs.SpellsPartLemmas.{Cuts, chain, widen, no_part, seen_byte, append_nil, mapped}
 use Rattle.yaml_profile.proofs.SpellsSpaceLemmas.{white_cut, white_begins, break_begins}
 use Rattle.yaml_profile.proofs.SpellsLineLemmas.{Leads, next_read}
-use Rattle.yaml_profile.proofs.SpellsScalarLemmas.{mapped, left_true, right_true, both_true, differ, ScalarText, scalar_text}
+use Rattle.yaml_profile.proofs.SpellsScalarLemmas.{left_true, right_true, both_true, differ, ScalarText, scalar_text}
 use Rattle.yaml_profile.proofs.SpellsKeyLemmas.{gap_weaker, feed_more, refuted, gap_closes, KeyOf, key_cut}
 use Rattle.yaml_profile.proofs.SpellsFlowLemmas.{NodeRead, inline_read, Distinct, distinct_next, distinct_last}
 
@@ -126,22 +126,26 @@ abbrev pub Lower : Bool → (ℕ → Production) → ℕ → ℕ → Production
 Lower true block column = IsDeeperOrSequence block column
 Lower false block column = IsDeeper block column
 
-deeper : (of_map : Bool) (block : ℕ → Production) (column other : ℕ) (tree : Yaml) (s : Text) → column < other → block other tree s → Lower of_map block column other tree s
+deeper : (of_map : Bool) (block : ℕ → Production) (column other : ℕ) (tree : Yaml) (s : Text) → column < other → block other tree s
+    → Lower of_map block column other tree s
 deeper true block column other tree s less h = (inl less, h)
 deeper false block column other tree s less h = (less, h)
 
-level : (of_map : Bool) (block : ℕ → Production) (column other : ℕ) (tree : Yaml) (s : Text) → of_map ≡ true → other ≡ column → is_dash s ≡ true → block other tree s → Lower of_map block column other tree s
+level : (of_map : Bool) (block : ℕ → Production) (column other : ℕ) (tree : Yaml) (s : Text) → of_map ≡ true → other ≡ column → is_dash s ≡ true
+    → block other tree s → Lower of_map block column other tree s
 level true block column other tree s e same dash h = (inr (same, dash), h)
 level false block column other tree s e same dash h = absurd cc
 
 abbrev BesideRead : Production → (ℕ → Production) → Bool → ℕ → Text → Yaml × Option Line → Type 0
 BesideRead inline block of_map column t x = NodeEnds (IsBeside inline (Lower of_map block column)) t x
 
-lower_node : (inline : Production) (block : ℕ → Production) (of_map : Bool) (column : ℕ) (t : Text) (l : Line) (x : Yaml × Option Line) → Cuts (ToLine l.0) t l.1
+lower_node : (inline : Production) (block : ℕ → Production) (of_map : Bool) (column : ℕ) (t : Text) (l : Line) (x : Yaml × Option Line)
+    → Cuts (ToLine l.0) t l.1
     → ((s : Text) → Dashed block l x.0 s → Lower of_map block column l.0 x.0 s) → NodeEnds (Dashed block l) l.1 x → BesideRead inline block of_map column t x
 lower_node inline block of_map column t l x line f h = record { after = h.after; node = widen (λ s k. later_line l.0 k) (chain line (widen f h.node)); leads = h.leads; gap = h.gap }
 
-below_read : (inline : Production) (block : ℕ → Production) (node : Node) → BlockReads block node → (of_map : Bool) (column : ℕ) (t : Text) (next : Option Line) → is_gap t ≡ true → Leads t next
+below_read : (inline : Production) (block : ℕ → Production) (node : Node) → BlockReads block node
+    → (of_map : Bool) (column : ℕ) (t : Text) (next : Option Line) → is_gap t ≡ true → Leads t next
     → IfOk (below node of_map column next) (BesideRead inline block of_map column t)
 below_read inline block node reads of_map column t None g h = record { after = t; node = no_part t (nothing refl refl); leads = h; gap = g }
 below_read inline block node reads of_map column t (Some l) g h =
@@ -158,11 +162,13 @@ below_read inline block node reads of_map column t (Some l) g h =
     (λ x k. lower_node inline block of_map column t l x h.0 (λ s d. level of_map block column l.0 x.0 s (first_of_both of_map _ e) same (d.1 dash) d.0) k) (reads true l h.1))
     (λ _. record { after = t; node = no_part t (nothing refl refl); leads = h; gap = g }))
 
-same_node : (inline : Production) (block : ℕ → Production) (of_map : Bool) (column : ℕ) (t : Text) (x : Yaml × Option Line) → is_gap t ≡ true → ends_node t ≡ false → NodeEnds inline (past_white t) x
+same_node : (inline : Production) (block : ℕ → Production) (of_map : Bool) (column : ℕ) (t : Text) (x : Yaml × Option Line) → is_gap t ≡ true
+    → ends_node t ≡ false → NodeEnds inline (past_white t) x
     → BesideRead inline block of_map column t x
 same_node inline block of_map column t x g e h = record { after = h.after; node = widen (λ s k. same_line k) (chain (some_white t g e) h.node); leads = h.leads; gap = h.gap }
 
-later_read : (inline : Production) (block : ℕ → Production) (node : Node) → BlockReads block node → (of_map : Bool) (column : ℕ) (t : Text) → is_gap t ≡ true → ends_node t ≡ true
+later_read : (inline : Production) (block : ℕ → Production) (node : Node) → BlockReads block node → (of_map : Bool) (column : ℕ) (t : Text)
+    → is_gap t ≡ true → ends_node t ≡ true
     → IfOk (next_line t >>= λ next. below node of_map column next) (BesideRead inline block of_map column t)
 later_read inline block node reads of_map column t g e =
     bind (Leads t) (BesideRead inline block of_map column t) (next_line t) (λ next. below node of_map column next) (next_read t e) (λ next h. below_read inline block node reads of_map column t next g h)
@@ -208,14 +214,16 @@ new_entry_read found t =
     allowed (NewEntry found t) (left_out t) t _ (bind (EntryKey t) (NewEntry found t) (entry_key t) _ (entry_key_read t)
     (λ key h. choose (NewEntry found t) (has_name key.0 found) _ _ (λ _. tt) (λ e. (h, e))))
 
-after_entry_read : (P : Yaml × Option Line → Type 0) (after : Text) (whole : Yaml) (column : ℕ) (go_on : Line → Blocks) (next : Option Line) → Leads after next → P (whole, next)
+after_entry_read : (P : Yaml × Option Line → Type 0) (after : Text) (whole : Yaml) (column : ℕ) (go_on : Line → Blocks) (next : Option Line)
+    → Leads after next → P (whole, next)
     → ((l : Line) → Leads after (Some l) → l.0 ≡ column → IfOk (go_on l) P) → IfOk (after_entry whole column go_on next) P
 after_entry_read P after whole column go_on None h p f = p
 after_entry_read P after whole column go_on (Some l) h p f =
     choose P (nat_lt l.0 column) _ _ (λ _. p)
     (λ e. choose P (nat_lt column l.0) _ _ (λ _. tt) (λ g. f l h (let same : l.0 ≡ column = grind (arith, nat_tests) in same)))
 
-joined_more : {A : Type 0} {P : A → Text → Type 0} (column : ℕ) (x : A) (xs : List A) (t u v w : Text) → Cuts (P x) t u → Cuts (ToLine column) u v → Cuts (IsJoined column P xs) v w
+joined_more : {A : Type 0} {P : A → Text → Type 0} (column : ℕ) (x : A) (xs : List A) (t u v w : Text) → Cuts (P x) t u → Cuts (ToLine column) u v
+    → Cuts (IsJoined column P xs) v w
     → Cuts (IsJoined column P (x ∷ xs)) t w
 joined_more column x xs t u v w e g j =
     let f = chain e g in record {
@@ -224,7 +232,8 @@ joined_more column x xs t u v w e g j =
       holds = more f.part j.part f.holds j.holds refl;
     }
 
-to_column : (after : Text) (l : Line) (column : ℕ) → Leads after (Some l) → l.0 ≡ column → Cuts (ToLine column) after l.1 × (is_marker (column, l.1) ≡ false)
+to_column : (after : Text) (l : Line) (column : ℕ) → Leads after (Some l) → l.0 ≡ column
+    → Cuts (ToLine column) after l.1 × (is_marker (column, l.1) ≡ false)
 to_column after l column h same =
     let P : ℕ → Type 0 = λ c. Cuts (ToLine c) after l.1 × (is_marker (c, l.1) ≡ false) in subst P same (h.0, h.1)
 
@@ -237,7 +246,8 @@ record EntriesRest (inline : Production) (block : ℕ → Production) (column : 
   gap : is_gap after ≡ true
   distinct : Distinct found → Distinct (found ++ rest)
 
-entry_cut : (inline : Production) (block : ℕ → Production) (column : ℕ) (t : Text) (key : List ℕ × Text) (value : Yaml × Option Line) → is_marker (column, t) ≡ false → EntryKey t key
+entry_cut : (inline : Production) (block : ℕ → Production) (column : ℕ) (t : Text) (key : List ℕ × Text) (value : Yaml × Option Line)
+    → is_marker (column, t) ≡ false → EntryKey t key
     → (h : BesideRead inline block true column key.1 value) → Cuts (IsEntry inline block column (pair key.0 value.0)) t h.after
 entry_cut inline block column t key value m k h =
     let c = k.0 in
@@ -254,7 +264,8 @@ entry_cut inline block column t key value m k h =
       };
     }
 
-entries_read : (depth : ℕ) (block : ℕ → Production) (node : Node) → BlockReads block node → (column n : ℕ) (found : List Pair) (t : Text) → is_marker (column, t) ≡ false
+entries_read : (depth : ℕ) (block : ℕ → Production) (node : Node) → BlockReads block node → (column n : ℕ) (found : List Pair) (t : Text)
+    → is_marker (column, t) ≡ false
     → IfOk (entries node depth column n found t) (EntriesRest (IsInline depth false) block column found t)
 unfolding entries
 entries_read depth block node reads column zero found t m = tt
@@ -296,7 +307,8 @@ dash_seen : (t : Text) → is_dash t ≡ true → Cuts (Is 45) t (drop 1 t) × (
 dash_seen [] e = absurd cc
 dash_seen (b ∷ t) e = (seen_byte 45 (b ∷ t) (first_of_both (b == 45) (is_gap t) e), second_of_both (b == 45) (is_gap t) e)
 
-dashes_read : (depth : ℕ) (block : ℕ → Production) (node : Node) → BlockReads block node → (held : Bool) (column n : ℕ) (found : List Yaml) (t : Text) → is_dash t ≡ true
+dashes_read : (depth : ℕ) (block : ℕ → Production) (node : Node) → BlockReads block node
+    → (held : Bool) (column n : ℕ) (found : List Yaml) (t : Text) → is_dash t ≡ true
     → IfOk (dashes node depth held column n found t) (ItemsRest (IsInline depth false) block column found t)
 unfolding dashes
 dashes_read depth block node reads held column zero found t d = tt
@@ -322,16 +334,14 @@ dashes_read depth block node reads held column (suc n) found t d =
     }) (dashes_read depth block node reads held column n now l.1 e))
     (λ _. choose E held _ _ (λ _. ended (Some l) leads) (λ _. tt))))
 
-item_dash : (inline : Production) (block : ℕ → Production) (column : ℕ) (tree : Yaml) (s next : Text) → is_gap next ≡ true → IsItem inline block column tree s → is_dash (s ++ next) ≡ true
+item_dash : (inline : Production) (block : ℕ → Production) (column : ℕ) (tree : Yaml) (s next : Text) → is_gap next ≡ true
+    → IsItem inline block column tree s → is_dash (s ++ next) ≡ true
 item_dash inline block column tree s next g h =
     let gap = gap_more h.second next (beside_gap inline (IsDeeper block column) tree h.second h.is_second) g in
     ap is_dash (ap (λ (x : Text). x ++ next) (h.parts ∙ ap (λ (x : Text). x ++ h.second) h.is_first)) ∙ gap
 
-append_nil : (s : Text) → s ≡ s ++ []
-append_nil [] = refl
-append_nil (b ∷ s) = ap (λ (x : Text). b ∷ x) (append_nil s)
-
-items_dash : (inline : Production) (block : ℕ → Production) (column : ℕ) (xs : List Yaml) (s : Text) → IsJoined column (IsItem inline block column) xs s → is_dash s ≡ true
+items_dash : (inline : Production) (block : ℕ → Production) (column : ℕ) (xs : List Yaml) (s : Text)
+    → IsJoined column (IsItem inline block column) xs s → is_dash s ≡ true
 items_dash inline block column xs s (last {x = x} h) = ap is_dash (append_nil s) ∙ item_dash inline block column x s [] refl h
 items_dash inline block column xs s (more {x = x} first rest h j e) =
     let behind : s ≡ h.first ++ (h.second ++ rest) = e ∙ ap (λ (y : Text). y ++ rest) h.parts ∙ append_assoc h.first h.second rest in

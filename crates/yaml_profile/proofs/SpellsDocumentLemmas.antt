@@ -12,21 +12,16 @@ use Rattle.yaml_profile.specs.Read.{yaml_of, placed}
 use Rattle.yaml_profile.specs.Space.{◌and_then◌, IsPassed, IsIndent, ToEnd}
 use Rattle.yaml_profile.specs.Spells.{IsBlock, IsMarked, IsStart, IsEmpty, Spells, node, empty}
 use Rattle.yaml_profile.proofs.FineLemmas.{bind, choose, first_of_both, second_of_both}
-use Rattle.yaml_profile.proofs.SpellsPartLemmas.{Cuts, chain, widen}
+use Rattle.yaml_profile.proofs.SpellsPartLemmas.{Cuts, chain, widen, append_nil, mapped}
 use Rattle.yaml_profile.proofs.SpellsLineLemmas.{Begun, Leads, first_line, next_read}
-use Rattle.yaml_profile.proofs.SpellsScalarLemmas.{mapped}
 use Rattle.yaml_profile.proofs.SpellsBlockLemmas.{NodeEnds, Dashed, block_read}
-
-append_nil : (s : Text) → s ++ [] ≡ s
-append_nil [] = refl
-append_nil (b ∷ s) = ap (λ (x : Text). b ∷ x) (append_nil s)
 
 -- a part to the end of the text, and back
 to_end : {P : Text → Type 0} (t : Text) → P t → Cuts P t []
-to_end t p = record { part = t; whole = sym (append_nil t); holds = p }
+to_end t p = record { part = t; whole = append_nil t; holds = p }
 
 all_of : (P : Text → Type 0) (t : Text) → Cuts P t [] → P t
-all_of P t c = subst P (sym (c.whole ∙ append_nil c.part)) c.holds
+all_of P t c = subst P (sym (c.whole ∙ sym (append_nil c.part))) c.holds
 
 -- ---- the first line
 
@@ -64,9 +59,10 @@ passed_cut : (t : Text) (l : Line) → l.0 ≡ 0 → Cuts (IsIndent l.0) t l.1 �
 passed_cut t l e c = let P : ℕ → Type 0 = λ k. Cuts (IsIndent k) t l.1 in widen only (subst P e c)
   where
     only : (s : Text) → IsIndent 0 s → IsPassed s
-    only s h = let P : Text → Type 0 = λ x. IsPassed x in subst P (sym (h.parts ∙ ap (λ (x : Text). h.first ++ x) h.is_second ∙ append_nil h.first)) h.is_first
+    only s h = let P : Text → Type 0 = λ x. IsPassed x in subst P (sym (h.parts ∙ ap (λ (x : Text). h.first ++ x) h.is_second ∙ sym (append_nil h.first))) h.is_first
 
-after_marker : (t : Text) (l : Line) (next : Option Line) → Cuts IsPassed t l.1 → Cuts Three l.1 (drop 3 l.1) → Leads (drop 3 l.1) next → Started t next
+after_marker : (t : Text) (l : Line) (next : Option Line) → Cuts IsPassed t l.1 → Cuts Three l.1 (drop 3 l.1) → Leads (drop 3 l.1) next
+    → Started t next
 after_marker t l None p c h = let Q : Text → Type 0 = λ s. ToEnd s in inr (all_of (IsMarked ToEnd) t (chain p (chain c (to_end {P = Q} (drop 3 l.1) h))))
 after_marker t l (Some m) p c h = (widen (λ s k. inr k) (chain p (chain c h.0)), h.1)
 

@@ -16,9 +16,9 @@ use Rattle.yaml_profile.specs.Tree.{name_of}
 use Rattle.yaml_profile.specs.Space.{◌and_then◌, Is, IsSpace}
 use Rattle.yaml_profile.specs.Spells.{Production, IsListed, none, last, more, IsFlowValue, IsFlowPair, IsFlow, sequence, mapping, IsText, IsInline}
 use Rattle.yaml_profile.proofs.FineLemmas.{bind, choose, allowed, either}
-use Rattle.yaml_profile.proofs.SpellsPartLemmas.{Cuts, Reads, chain, widen, no_part, seen_byte, IsFull, seen_full}
+use Rattle.yaml_profile.proofs.SpellsPartLemmas.{Cuts, Reads, chain, widen, no_part, seen_byte, IsFull, seen_full, mapped}
 use Rattle.yaml_profile.proofs.SpellsSpaceLemmas.{space_cut, space_append}
-use Rattle.yaml_profile.proofs.SpellsScalarLemmas.{mapped, differ, ScalarText, scalar_text}
+use Rattle.yaml_profile.proofs.SpellsScalarLemmas.{differ, ScalarText, scalar_text}
 use Rattle.yaml_profile.proofs.SpellsKeyLemmas.{scalar_closed, scalar_full, KeyOf, key_cut, mark_closes, spaced_value}
 
 -- ---- names
@@ -60,7 +60,8 @@ seq_none found = ap Seq (grind (arith, common_steps))
 pub map_none : (found : List Pair) → Map found ≡ Map (found ++ [])
 map_none found = ap Map (grind (arith, common_steps))
 
-listed_more : {A : Type 0} {close : ℕ} {P : A → Text → Type 0} (x : A) (xs : List A) (t u v : Text) → Cuts (IsSpace and_then P x and_then IsSpace and_then Is 44) t u → Cuts (IsListed close P xs) u v
+listed_more : {A : Type 0} {close : ℕ} {P : A → Text → Type 0} (x : A) (xs : List A) (t u v : Text)
+    → Cuts (IsSpace and_then P x and_then IsSpace and_then Is 44) t u → Cuts (IsListed close P xs) u v
     → Cuts (IsListed close P (x ∷ xs)) t v
 listed_more x xs t u v f l = record {
   part = f.part ++ l.part;
@@ -94,7 +95,8 @@ items_next P found t item x e h k = record {
       (chain (space_cut t h.0) (chain (h.1 (mark_closes 44 item.1 e refl)) (chain (space_cut item.1 (seen_full 44 (spaced item.1) e)) (seen_byte 44 (spaced item.1) e)))) k.listed;
 }
 
-items_read : (P : Production) (node : Reader Yaml) → NodeReads P node → (n : ℕ) (found : List Yaml) (t : Text) → IfOk (items node n found t) (ItemsRest P found t)
+items_read : (P : Production) (node : Reader Yaml) → NodeReads P node → (n : ℕ) (found : List Yaml) (t : Text)
+    → IfOk (items node n found t) (ItemsRest P found t)
 unfolding items
 items_read P node reads zero found t = tt
 items_read P node reads (suc n) found t =
@@ -134,7 +136,8 @@ with_value P name value t u v k w = record {
   holds = record { key = k.part; value = w.part; parts = refl; is_key = k.holds w.part w.holds.1; is_value = w.holds.0 };
 }
 
-value_read : (P : Production) (node : Reader Yaml) → NodeReads P node → (t : Text) (key : List ℕ × Text) → ScalarText true t key → IfOk (value_of node key.1) (PairRead P key.0 t)
+value_read : (P : Production) (node : Reader Yaml) → NodeReads P node → (t : Text) (key : List ℕ × Text) → ScalarText true t key
+    → IfOk (value_of node key.1) (PairRead P key.0 t)
 unfolding value_of
 value_read P node reads t key h =
     let after : Text = drop 1 (past_white key.1) in
@@ -162,7 +165,8 @@ record PairsRest (P : Production) (found : List Pair) (t : Text) (x : Yaml × Te
 pub distinct_none : (found : List Pair) → Distinct found → Distinct (found ++ [])
 distinct_none found h = let e : found ≡ found ++ [] = grind (arith, common_steps) in let P : List Pair → Type 0 = λ l. Distinct l in subst P e h
 
-pub distinct_next : (found rest : List Pair) (n : List ℕ) (v : Yaml) → has_name n found ≡ false → (Distinct (found ++ pair n v ∷ []) → Distinct ((found ++ pair n v ∷ []) ++ rest))
+pub distinct_next : (found rest : List Pair) (n : List ℕ) (v : Yaml) → has_name n found ≡ false
+    → (Distinct (found ++ pair n v ∷ []) → Distinct ((found ++ pair n v ∷ []) ++ rest))
     → Distinct found → Distinct (found ++ pair n v ∷ rest)
 distinct_next found rest n v new f h = let P : List Pair → Type 0 = λ l. Distinct l in subst P (append_assoc found (pair n v ∷ []) rest) (f (distinct_one n v found new h))
 
@@ -183,13 +187,15 @@ space_after c t u s e =
     let w = space_cut u (seen_full c (spaced u) e) in
     record { part = s.part ++ w.part; whole = s.whole ∙ ap (λ (x : Text). s.part ++ x) w.whole ∙ sym (append_assoc s.part w.part (spaced u)); holds = space_append s.part w.part s.holds w.holds }
 
-pair_listed : (P : Production) (c : ℕ) (t : Text) (key : List ℕ × Text) (value : Yaml × Text) → is_flow_mark c ≡ true → sees c (spaced value.1) ≡ true → ScalarText true (spaced t) key → PairRead P key.0 (spaced t) value
+pair_listed : (P : Production) (c : ℕ) (t : Text) (key : List ℕ × Text) (value : Yaml × Text) → is_flow_mark c ≡ true
+    → sees c (spaced value.1) ≡ true → ScalarText true (spaced t) key → PairRead P key.0 (spaced t) value
     → Cuts (IsSpace and_then IsFlowPair P (pair key.0 value.0) and_then IsSpace and_then Is c) t (drop 1 (spaced value.1))
 pair_listed P c t key value m e h k =
     let p = k (mark_closes c value.1 e m) in
     chain (space_cut t (scalar_full true (spaced t) key h)) (chain p.is_pair (chain (space_after c p.after value.1 p.space e) (seen_byte c (spaced value.1) e)))
 
-pairs_next : (P : Production) (found : List Pair) (t : Text) (key : List ℕ × Text) (value x : Yaml × Text) → sees 44 (spaced value.1) ≡ true → NewKey true found (spaced t) key
+pairs_next : (P : Production) (found : List Pair) (t : Text) (key : List ℕ × Text) (value x : Yaml × Text) → sees 44 (spaced value.1) ≡ true
+    → NewKey true found (spaced t) key
     → PairRead P key.0 (spaced t) value → PairsRest P (found ++ pair key.0 value.0 ∷ []) (drop 1 (spaced value.1)) x → PairsRest P found t x
 pairs_next P found t key value x e h v k = record {
   rest = pair key.0 value.0 ∷ k.rest;
@@ -198,7 +204,8 @@ pairs_next P found t key value x e h v k = record {
   distinct = distinct_next found k.rest key.0 value.0 h.1 k.distinct;
 }
 
-pairs_read : (P : Production) (node : Reader Yaml) → NodeReads P node → (n : ℕ) (found : List Pair) (t : Text) → IfOk (pairs node n found t) (PairsRest P found t)
+pairs_read : (P : Production) (node : Reader Yaml) → NodeReads P node → (n : ℕ) (found : List Pair) (t : Text)
+    → IfOk (pairs node n found t) (PairsRest P found t)
 unfolding pairs
 pairs_read P node reads zero found t = tt
 pairs_read P node reads (suc n) found t =
@@ -223,7 +230,8 @@ text_read flow t =
 seq_node : (P : Production) (flow : Bool) (t : Text) (x : Yaml × Text) → sees 91 t ≡ true → ItemsRest P [] (drop 1 t) x → NodeRead flow (IsFlow P) t x
 seq_node P flow t x e h = (seen_full 91 t e, λ _. widen (λ s k. sequence h.rest h.same k) (chain (seen_byte 91 t e) h.listed))
 
-map_node : (P : Production) (flow : Bool) (t : Text) (x : Yaml × Text) → sees 123 t ≡ true → PairsRest P [] (drop 1 t) x → NodeRead flow (IsFlow P) t x
+map_node : (P : Production) (flow : Bool) (t : Text) (x : Yaml × Text) → sees 123 t ≡ true → PairsRest P [] (drop 1 t) x
+    → NodeRead flow (IsFlow P) t x
 map_node P flow t x e h = (seen_full 123 t e, λ _. widen (λ s k. mapping h.rest h.same (h.distinct tt) k) (chain (seen_byte 123 t e) h.listed))
 
 pub inline_read : (depth : ℕ) (flow : Bool) (t : Text) → IfOk (inline depth flow t) (NodeRead flow (IsInline depth flow) t)

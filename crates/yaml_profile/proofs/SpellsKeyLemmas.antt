@@ -27,7 +27,8 @@ pub gap_weaker : (b : ℕ) (s r : Text) → (sees 10 s ≡ true → sees 10 r �
 gap_weaker b s r f e =
     either (is_white b) (ends_line (b ∷ s)) (λ g. left_true (is_white b) _ g) (λ g. right_true (is_white b) _ (line_weaker b s r f g)) e
 
-pub closes_weaker : (flow : Bool) (b : ℕ) (s r : Text) → (sees 10 s ≡ true → sees 10 r ≡ true) → closes flow (b ∷ s) ≡ true → closes flow (b ∷ r) ≡ true
+pub closes_weaker : (flow : Bool) (b : ℕ) (s r : Text) → (sees 10 s ≡ true → sees 10 r ≡ true) → closes flow (b ∷ s) ≡ true
+    → closes flow (b ∷ r) ≡ true
 closes_weaker flow b s r f e =
     either (is_gap (b ∷ s)) (flow && is_flow_mark b) (λ g. left_true (is_gap (b ∷ r)) _ (gap_weaker b s r f g)) (λ g. right_true (is_gap (b ∷ r)) _ g) e
 
@@ -100,11 +101,6 @@ weaker_more : (flow : Bool) (s after : Text) → IsFull s → Weaker flow s (s +
 weaker_more flow [] after full = absurd (full refl)
 weaker_more flow (b ∷ s) after full = record { feed = λ e. e; close = closes_weaker flow b s (s ++ after) (feed_more s after) }
 
--- no plain scalar begins with white or a colon that closes
-no_gap_begins : (flow : Bool) (b : ℕ) (t : Text) → is_gap (b ∷ t) ≡ true → begins_plain flow (b ∷ t) ≡ true → ⊥
-no_gap_begins flow b t g e =
-    differ (left_true (is_gap (b ∷ t)) (is_indicator b) g) (not_true (is_gap (b ∷ t) || is_indicator b) (first_of_both (not (is_gap (b ∷ t) || is_indicator b)) _ e))
-
 -- ---- scalars
 
 as_scalar : (flow : Bool) (t : Text) (x : List ℕ × Text) → closes flow x.1 ≡ true → PlainText flow t x → Reads (IsScalar flow) t x
@@ -140,7 +136,8 @@ scalar_full flow t x (inr p) = full_by (x.0 ++ x.1) t p.whole (append_full x.0 x
 abbrev pub KeyOf : Bool → List ℕ → Text → Text → Type 0
 KeyOf flow name after key = (value : Text) → (closes flow after ≡ true → closes flow value ≡ true) → IsKey flow name key value
 
-plain_key_cut : (flow : Bool) (t after : Text) (x : List ℕ × Text) → closes flow after ≡ true → Cuts (IsWhite and_then Is 58) x.1 after → PlainText flow t x → Cuts (KeyOf flow x.0 after) t after
+plain_key_cut : (flow : Bool) (t after : Text) (x : List ℕ × Text) → closes flow after ≡ true → Cuts (IsWhite and_then Is 58) x.1 after
+    → PlainText flow t x → Cuts (KeyOf flow x.0 after) t after
 plain_key_cut flow t after x c w p =
     let white = w.holds.first in
     let next = white ++ 58 ∷ [] in
@@ -154,7 +151,8 @@ plain_key_cut flow t after x c w p =
           refl (f c);
     }
 
-pub key_cut : (flow : Bool) (t : Text) (x : List ℕ × Text) → sees 58 (past_white x.1) ≡ true → ScalarText flow t x → Cuts (KeyOf flow x.0 (drop 1 (past_white x.1))) t (drop 1 (past_white x.1))
+pub key_cut : (flow : Bool) (t : Text) (x : List ℕ × Text) → sees 58 (past_white x.1) ≡ true → ScalarText flow t x
+    → Cuts (KeyOf flow x.0 (drop 1 (past_white x.1))) t (drop 1 (past_white x.1))
 key_cut flow t x e (inl q) = widen (λ s k value f. quoted k) (chain q (chain (white_cut x.1) (seen_byte 58 (past_white x.1) e)))
 key_cut flow t x e (inr p) = plain_key_cut flow t (drop 1 (past_white x.1)) x (p.colon e) (chain (white_cut x.1) (seen_byte 58 (past_white x.1) e)) p
 

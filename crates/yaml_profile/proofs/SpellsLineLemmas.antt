@@ -1,5 +1,5 @@
 -- Lines that are passed over are such texts.
-use Rattle.std.proofs.Common.{◌≡◌, ◌⊎◌, inl, inr, ℕ, zero, suc, ◌+◌, ◌<◌, Bool, true, false, ◌&&◌, ◌||◌, ◌==◌, cond, [], ◌∷◌, ◌++◌, length, replicate, Option, Some, None, Result, Ok, Err, refl, sym, ap, subst, ◌∙◌, append_assoc, arith}
+use Rattle.std.proofs.Common.{◌≡◌, ◌⊎◌, inl, inr, ℕ, zero, suc, ◌+◌, ◌<◌, Bool, true, false, ◌&&◌, ◌||◌, ◌==◌, cond, [], ◌∷◌, ◌++◌, length, replicate, Option, Some, None, Result, Ok, refl, sym, ap, subst, ◌∙◌, append_assoc, arith}
 use Rattle.std.specs.Prelude.{IfOk}
 use Rattle.std.proofs.lemmas.Bool.{eqb-true}
 use Rattle.std.proofs.lemmas.Grind.{common_steps}
@@ -9,7 +9,7 @@ use Rattle.yaml_profile.specs.Block.{Line, is_blank, line_from, is_marker, witho
 use Rattle.yaml_profile.specs.Tree.{Each}
 use Rattle.yaml_profile.specs.Space.{◌and_then◌, none, more, IsBreak, IsLineRest, IsBlankLine, IsIndent, ToLine, IsBlankEnd, ToEnd}
 use Rattle.yaml_profile.proofs.FineLemmas.{bind, choose, pick, either, first_of_both, second_of_both}
-use Rattle.yaml_profile.proofs.SpellsPartLemmas.{Cuts, both_parts, chain, widen, no_part, seen_byte}
+use Rattle.yaml_profile.proofs.SpellsPartLemmas.{Cuts, both_parts, chain, widen, no_part, seen_byte, mapped}
 
 abbrev Lines : Type 0
 Lines = Result (Option Line) Refusal
@@ -201,10 +201,6 @@ LinesRead t o = IfOk o (Begun t)
 
 only_blank : (t : Text) → IsBlankLine t → IsBlankEnd t
 only_blank t h = record { first = []; second = t; parts = refl; is_first = none; is_second = h }
-
-mapped : {A : Type 0} (P Q : A → Type 0) (o : Result A Refusal) → ((x : A) → P x → Q x) → IfOk o P → IfOk o Q
-mapped P Q (Ok x) f p = f x p
-mapped P Q (Err e) f p = tt
 
 line_over : (k : ℕ) (t : Text) → Ends IsBlankLine t → ((rest : Text) → length rest < length t → LinesRead rest (line_from (Some 0) rest))
     → LinesRead (spaces k ++ t) (line_from None t)

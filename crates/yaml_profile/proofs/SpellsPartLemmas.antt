@@ -1,6 +1,9 @@
 -- A part of a text, and what follows it.
-use Rattle.std.proofs.Common.{◌≡◌, ℕ, true, List, [], ◌∷◌, ◌++◌, drop, refl, sym, ap, ◌∙◌, append_assoc}
+use Rattle.std.proofs.Common.{◌≡◌, ℕ, true, List, [], ◌∷◌, ◌++◌, drop, refl, sym, ap, ◌∙◌, append_assoc, length, Result, Ok, Err, arith, ◌<◌}
 use Rattle.std.proofs.lemmas.Bool.{eqb-true}
+use Rattle.std.proofs.lemmas.List.{length-append}
+use Rattle.std.specs.Prelude.{IfOk}
+use Rattle.yaml_profile.specs.declared.fault.Refusal.{Refusal}
 use Rattle.yaml_profile.specs.Text.{Text, sees}
 use Rattle.yaml_profile.specs.Space.{◌and_then◌, Many, none, more, Is}
 
@@ -40,29 +43,6 @@ pub seen_byte : (c : ℕ) (t : Text) → sees c t ≡ true → Cuts (Is c) t (dr
 seen_byte c [] e = absurd cc
 seen_byte c (b ∷ t) e = record { part = b ∷ []; whole = refl; holds = ap (λ (x : ℕ). x ∷ []) (eqb-true b c e) }
 
--- (P, Q), R as P, (Q, R)
-pub regroup : {P Q R : Text → Type 0} {s : Text} → ((P and_then Q) and_then R) s → (P and_then Q and_then R) s
-regroup {s = s} h = record {
-  first = h.is_first.first;
-  second = h.is_first.second ++ h.second;
-  parts = h.parts ∙ ap (λ (x : Text). x ++ h.second) h.is_first.parts ∙ append_assoc h.is_first.first h.is_first.second h.second;
-  is_first = h.is_first.is_first;
-  is_second = both_parts h.is_first.second h.second h.is_first.is_second h.is_second;
-}
-
-pub map_first : {P Q R : Text → Type 0} {s : Text} → ((x : Text) → P x → Q x) → (P and_then R) s → (Q and_then R) s
-map_first f h = record { first = h.first; second = h.second; parts = h.parts; is_first = f h.first h.is_first; is_second = h.is_second }
-
-pub map_second : {P Q R : Text → Type 0} {s : Text} → ((x : Text) → Q x → R x) → (P and_then Q) s → (P and_then R) s
-map_second f h = record { first = h.first; second = h.second; parts = h.parts; is_first = h.is_first; is_second = f h.second h.is_second }
-
-pub many_cut : {P : Text → Type 0} {t u v : Text} → Cuts P t u → Cuts (Many P) u v → Cuts (Many P) t v
-many_cut {v = v} p q = record {
-  part = p.part ++ q.part;
-  whole = p.whole ∙ ap (λ (s : Text). p.part ++ s) q.whole ∙ sym (append_assoc p.part q.part v);
-  holds = more p.part q.part p.holds q.holds refl;
-}
-
 pub many_append : {P : Text → Type 0} {s t : Text} → Many P s → Many P t → Many P (s ++ t)
 many_append none q = q
 many_append {t = t} (more first rest p ps e) q = more first (rest ++ t) p (many_append ps q) (ap (λ (x : Text). x ++ t) e ∙ append_assoc first rest t)
@@ -73,3 +53,16 @@ IsFull xs = xs ≡ [] → ⊥
 
 pub seen_full : (c : ℕ) (t : Text) → sees c t ≡ true → IsFull t
 seen_full c t e empty = cc
+
+pub append_nil : (s : Text) → s ≡ s ++ []
+append_nil [] = refl
+append_nil (b ∷ s) = ap (λ (x : Text). b ∷ x) (append_nil s)
+
+pub full_shorter : (s t : Text) → IsFull s → length t < length (s ++ t)
+full_shorter [] t f = absurd (f refl)
+full_shorter (b ∷ s) t f = let l = length-append s t in omega arith
+
+-- what holds of a value that was read gives more
+pub mapped : {A : Type 0} (P Q : A → Type 0) (o : Result A Refusal) → ((x : A) → P x → Q x) → IfOk o P → IfOk o Q
+mapped P Q (Ok x) f p = f x p
+mapped P Q (Err e) f p = tt

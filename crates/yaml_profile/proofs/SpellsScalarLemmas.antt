@@ -1,10 +1,8 @@
 -- Scalars and keys that are read are such texts.
-use Rattle.std.proofs.Common.{◌≡◌, ◌⊎◌, inl, inr, ℕ, zero, suc, ◌+◌, ◌*◌, Bool, true, false, ◌&&◌, ◌||◌, ◌==◌, cond, List, [], ◌∷◌, ◌++◌, length, map, take, drop, Option, Some, None, Result, Ok, Err, refl, sym, ap, subst, ◌∙◌, append_assoc, arith}
+use Rattle.std.proofs.Common.{◌≡◌, ◌⊎◌, inl, inr, ℕ, zero, suc, ◌+◌, ◌*◌, Bool, true, false, ◌&&◌, ◌||◌, ◌==◌, cond, List, [], ◌∷◌, ◌++◌, length, map, take, drop, Option, Some, None, Ok, refl, sym, ap, subst, ◌∙◌, append_assoc, arith}
 use Rattle.std.specs.Prelude.{IfOk, flat_map, encode_utf8}
 use Rattle.std.proofs.lemmas.Bool.{eqb-true}
-use Rattle.std.proofs.lemmas.Grind.{common_steps}
 use Rattle.std.proofs.Math.Seq.{drop-append_seam, take-append_seam}
-use Rattle.yaml_profile.specs.declared.fault.Refusal.{Refusal}
 use Rattle.yaml_profile.specs.Text.{Text, refuse, sees, is_white, ends_line, past_white}
 use Rattle.yaml_profile.specs.declared.fault.Fault.TheVariants.{Syntax}
 use Rattle.yaml_profile.specs.Scalar.{single, hex, hex_value, hex_digits, short_escape, by_kind, escape, is_scalar_value, double, double_quoted, begins_plain, ends_plain, plain_len, plain_of, has_forbidden, plain, scalar, closes}
@@ -12,11 +10,7 @@ use Rattle.yaml_profile.specs.Tree.{Each}
 use Rattle.yaml_profile.specs.Space.{◌and_then◌, Is}
 use Rattle.yaml_profile.specs.ScalarTexts.{in_single, IsSingle, number_of, IsEscape, InDouble, none, byte, escape as escaped, IsQuoted, GoesOn, IsPlain}
 use Rattle.yaml_profile.proofs.FineLemmas.{bind, choose, pick, either}
-use Rattle.yaml_profile.proofs.SpellsPartLemmas.{Cuts, Reads, chain, widen, one_byte, IsFull}
-
-pub mapped : {A : Type 0} (P Q : A → Type 0) (o : Result A Refusal) → ((x : A) → P x → Q x) → IfOk o P → IfOk o Q
-mapped P Q (Ok x) f p = f x p
-mapped P Q (Err e) f p = tt
+use Rattle.yaml_profile.proofs.SpellsPartLemmas.{Cuts, Reads, chain, widen, one_byte, IsFull, append_nil, mapped}
 
 pub left_true : (x y : Bool) → x ≡ true → (x || y) ≡ true
 left_true x y e = ap (λ (z : Bool). z || y) e
@@ -35,9 +29,6 @@ left_false false y e = refl
 pub differ : {x : Bool} → x ≡ true → x ≡ false → ⊥
 differ e f = cc
 
-append_nil : (s : Text) → s ≡ s ++ []
-append_nil s = grind (arith, common_steps)
-
 -- ---- single-quoted
 
 record SingleRest (found t : Text) (x : List ℕ × Text) : Type 0 where
@@ -53,7 +44,8 @@ SingleHolds found false t x = SingleRest found t x
 single_over : (found t : Text) → SingleRest found (39 ∷ t) (found, t)
 single_over found t = record { value = []; same = append_nil found; whole = refl; one_line = tt }
 
-single_more : (found : List ℕ) (b : ℕ) (front t : Text) (x : List ℕ × Text) → front ≡ in_single b → (b == 10) ≡ false → SingleRest (found ++ b ∷ []) t x → SingleRest found (front ++ t) x
+single_more : (found : List ℕ) (b : ℕ) (front t : Text) (x : List ℕ × Text) → front ≡ in_single b → (b == 10) ≡ false
+    → SingleRest (found ++ b ∷ []) t x → SingleRest found (front ++ t) x
 single_more found b front t x e f h = record {
   value = b ∷ h.value;
   same = h.same ∙ append_assoc found (b ∷ []) h.value;
@@ -156,7 +148,8 @@ record DoubleRest (found t : Text) (x : List ℕ × Text) : Type 0 where
   whole : t ≡ text ++ 34 ∷ x.1
   inside : InDouble value text
 
-double_byte : (found : List ℕ) (b : ℕ) (t : Text) (x : List ℕ × Text) → (b == 34) ≡ false → (b == 92) ≡ false → (b == 10) ≡ false → DoubleRest (found ++ b ∷ []) t x → DoubleRest found (b ∷ t) x
+double_byte : (found : List ℕ) (b : ℕ) (t : Text) (x : List ℕ × Text) → (b == 34) ≡ false → (b == 92) ≡ false → (b == 10) ≡ false
+    → DoubleRest (found ++ b ∷ []) t x → DoubleRest found (b ∷ t) x
 double_byte found b t x e f g h = record {
   value = b ∷ h.value;
   text = b ∷ h.text;
@@ -165,7 +158,8 @@ double_byte found b t x e f g h = record {
   inside = byte b (ap (λ (c : Bool). c || b == 92 || b == 10) e ∙ ap (λ (c : Bool). c || b == 10) f ∙ g) h.inside;
 }
 
-double_escape : (found : List ℕ) (t : Text) (c : ℕ × Text) (x : List ℕ × Text) → EscapeRest t c → DoubleRest (found ++ encode_utf8 c.0) c.1 x → DoubleRest found (92 ∷ t) x
+double_escape : (found : List ℕ) (t : Text) (c : ℕ × Text) (x : List ℕ × Text) → EscapeRest t c → DoubleRest (found ++ encode_utf8 c.0) c.1 x
+    → DoubleRest found (92 ∷ t) x
 double_escape found t c x e h = record {
   value = encode_utf8 c.0 ++ h.value;
   text = (92 ∷ e.part) ++ h.text;
@@ -252,7 +246,8 @@ colon_none : (flow : Bool) → Colon flow []
 unfolding past_white
 colon_none flow e = absurd cc
 
-plain_more : (flow white : Bool) (at n : ℕ) (b : ℕ) (t : Text) → ends_plain flow white (b ∷ t) ≡ false → PlainPart flow (is_white b) (at + 1) t n → PlainPart flow white at (b ∷ t) n
+plain_more : (flow white : Bool) (at n : ℕ) (b : ℕ) (t : Text) → ends_plain flow white (b ∷ t) ≡ false → PlainPart flow (is_white b) (at + 1) t n
+    → PlainPart flow white at (b ∷ t) n
 plain_more flow white at n b t e h = record {
   part = b ∷ h.part;
   rest = h.rest;
@@ -285,7 +280,8 @@ pub record PlainText (flow : Bool) (t : Text) (x : List ℕ × Text) : Type 0 wh
   pub colon : Colon flow x.1
   pub full : IsFull x.0
 
-plain_over : (flow : Bool) (b : ℕ) (s rest : Text) (n : ℕ) → begins_plain flow (b ∷ (s ++ rest)) ≡ true → GoesOn flow false s rest → Colon flow rest → n ≡ suc (length s)
+plain_over : (flow : Bool) (b : ℕ) (s rest : Text) (n : ℕ) → begins_plain flow (b ∷ (s ++ rest)) ≡ true → GoesOn flow false s rest → Colon flow rest
+    → n ≡ suc (length s)
     → IfOk (plain_of (b ∷ (s ++ rest)) n) (PlainText flow (b ∷ (s ++ rest)))
 plain_over flow b s rest n begins goes colon e =
     let P : ℕ → Type 0 = λ k. IfOk (plain_of (b ∷ (s ++ rest)) k) (PlainText flow (b ∷ (s ++ rest))) in
