@@ -35,7 +35,9 @@ gap_other b [] n r e = refl
 gap_other b (c ∷ t) n r e = refuted (c == b) (not (is_gap (c ∷ t))) (λ f. ap not (black f)) (ap not e)
   where
     black : (c == b) ≡ true → is_gap (c ∷ t) ≡ false
-    black f = ap (λ (x : ℕ). is_gap (x ∷ t)) (eqb-true c b f) ∙ false_or (is_white b) _ (left_false (is_white b) _ n) (false_or (b == 10) _ (left_false (b == 10) _ (right_false (is_white b) _ n)) (ap (λ (x : Bool). x && sees 10 t) r))
+    black f = ap (λ (x : ℕ). is_gap (x ∷ t)) (eqb-true c b f)
+        ∙ false_or (is_white b) _ (left_false (is_white b) _ n)
+        (false_or (b == 10) _ (left_false (b == 10) _ (right_false (is_white b) _ n)) (ap (λ (x : Bool). x && sees 10 t) r))
 
 -- no text that may stand before a marker's gap ends with CR
 abbrev pub Firm : Text → Type 0
@@ -50,13 +52,18 @@ gap_less (b ∷ []) t firm e =
 gap_less (b ∷ c ∷ s) t firm e = e
 
 three_less : (b : ℕ) (s t : Text) → sees b t ≡ false → Firm s → is_three b (s ++ t) ≡ true → is_three b s ≡ true
-three_less b [] t n firm e = absurd (differ (first_of_both (sees b t) (sees b (drop 1 t)) (first_of_both (sees b t && sees b (drop 1 t)) (sees b (drop 2 t)) (first_of_both (sees b t && sees b (drop 1 t) && sees b (drop 2 t)) (is_gap (drop 3 t)) e))) n)
+three_less b [] t n firm e = absurd (differ (first_of_both (sees b t) (sees b (drop 1 t))
+    (first_of_both (sees b t && sees b (drop 1 t)) (sees b (drop 2 t))
+    (first_of_both (sees b t && sees b (drop 1 t) && sees b (drop 2 t)) (is_gap (drop 3 t)) e))) n)
 three_less b (x ∷ []) t n firm e =
-    absurd (differ (second_of_both (x == b) (sees b t) (first_of_both ((x == b) && sees b t) (sees b (drop 1 t)) (first_of_both ((x == b) && sees b t && sees b (drop 1 t)) (is_gap (drop 2 t)) e))) n)
+    absurd (differ (second_of_both (x == b) (sees b t)
+    (first_of_both ((x == b) && sees b t) (sees b (drop 1 t))
+    (first_of_both ((x == b) && sees b t && sees b (drop 1 t)) (is_gap (drop 2 t)) e))) n)
 three_less b (x ∷ y ∷ []) t n firm e =
     absurd (differ (second_of_both ((x == b) && (y == b)) (sees b t) (first_of_both ((x == b) && (y == b) && sees b t) (is_gap (drop 1 t)) e)) n)
 three_less b (x ∷ y ∷ z ∷ s) t n firm e =
-    let front = (x == b) && (y == b) && (z == b) in both_true front _ (first_of_both front (is_gap (s ++ t)) e) (gap_less s t firm (second_of_both front (is_gap (s ++ t)) e))
+    let front = (x == b) && (y == b) && (z == b) in both_true front _ (first_of_both front (is_gap (s ++ t)) e)
+    (gap_less s t firm (second_of_both front (is_gap (s ++ t)) e))
 
 pub marker_back : (column : ℕ) (s t : Text) → is_gap t ≡ true → Firm s → is_marker (column, s) ≡ false → is_marker (column, s ++ t) ≡ false
 marker_back column s t g firm e =
@@ -71,10 +78,12 @@ other_marker : (column b : ℕ) (t : Text) → (b == 45) ≡ false → (b == 46)
 other_marker column b t e f =
     refuted (is_marker (column, b ∷ t)) false (λ g.
     let both = is_three 45 (b ∷ t) || is_three 46 (b ∷ t) in
-    either (is_three 45 (b ∷ t)) (is_three 46 (b ∷ t)) (λ h. absurd (differ (begin 45 h) e)) (λ h. absurd (differ (begin 46 h) f)) (second_of_both (column == 0) both g)) refl
+    either (is_three 45 (b ∷ t)) (is_three 46 (b ∷ t)) (λ h. absurd (differ (begin 45 h) e)) (λ h. absurd (differ (begin 46 h) f))
+    (second_of_both (column == 0) both g)) refl
   where
     begin : (k : ℕ) → is_three k (b ∷ t) ≡ true → (b == k) ≡ true
-    begin k h = first_of_both (b == k) (sees k t) (first_of_both ((b == k) && sees k t) (sees k (drop 1 t)) (first_of_both ((b == k) && sees k t && sees k (drop 1 t)) (is_gap (drop 2 t)) h))
+    begin k h = first_of_both (b == k) (sees k t) (first_of_both ((b == k) && sees k t) (sees k (drop 1 t))
+        (first_of_both ((b == k) && sees k t && sees k (drop 1 t)) (is_gap (drop 2 t)) h))
 
 abbrev first : Text → ℕ
 first [] = 0
@@ -169,15 +178,24 @@ text_inline column x s rest h e m =
     marker : IsScalar false h.text s → is_marker (column, s ++ rest) ≡ false
     marker (inl (inl q)) = quote 39 _ q.quoted refl refl
     marker (inl (inr q)) = quote 34 q.second (q.parts ∙ ap (λ (y : Text). y ++ q.second) q.is_first) refl refl
-    marker (inr p) = marker_back column s rest (node_gap rest e) (let P : Text → Type 0 = λ y. Firm y in subst P (sym p.0) (plain_firm h.text p.1.allowed)) m
+    marker (inr p) = marker_back column s rest (node_gap rest e)
+        (let P : Text → Type 0 = λ y. Firm y in subst P (sym p.0) (plain_firm h.text p.1.allowed)) m
 
 flow_inline : (column : ℕ) (P : Production) (x : Yaml) (s rest : Text) → IsFlow P x s → InlineText column (s ++ rest)
 flow_inline column P x s rest (flow_sequence xs same h) =
     let e : s ++ rest ≡ 91 ∷ (h.second ++ rest) = ap (λ (y : Text). y ++ rest) (h.parts ∙ ap (λ (y : Text). y ++ h.second) h.is_first) in
-    record { no_key = ap has_key e ∙ bracket_no_key (h.second ++ rest); no_marker = ap (λ (y : Text). is_marker (column, y)) e ∙ other_marker column 91 (h.second ++ rest) refl refl }
+    record {
+      no_key = ap has_key e ∙ bracket_no_key (h.second ++ rest);
+      no_marker = ap (λ (y : Text). is_marker (column, y)) e
+          ∙ other_marker column 91 (h.second ++ rest) refl refl;
+    }
 flow_inline column P x s rest (flow_mapping ps same d h) =
     let e : s ++ rest ≡ 123 ∷ (h.second ++ rest) = ap (λ (y : Text). y ++ rest) (h.parts ∙ ap (λ (y : Text). y ++ h.second) h.is_first) in
-    record { no_key = ap has_key e ∙ brace_no_key (h.second ++ rest); no_marker = ap (λ (y : Text). is_marker (column, y)) e ∙ other_marker column 123 (h.second ++ rest) refl refl }
+    record {
+      no_key = ap has_key e ∙ brace_no_key (h.second ++ rest);
+      no_marker = ap (λ (y : Text). is_marker (column, y)) e
+          ∙ other_marker column 123 (h.second ++ rest) refl refl;
+    }
 
 pub inline_text : (depth column : ℕ) (x : Yaml) (s rest : Text) → IsInline depth false x s → ends_node rest ≡ true → is_marker (column, s) ≡ false
     → InlineText column (s ++ rest)
@@ -196,9 +214,11 @@ pub alone_back : (depth : ℕ) (x : Yaml) (t after : Text) (next : Option Line) 
 unfolding alone
 alone_back depth x t after next c l =
     let k = inline_back depth false x t after c (node_over false after l.ends) in
-    let rest : Yaml × Text → Blocks = λ node. cond (ends_node node.1) (next_line node.1 >>= λ line. Ok (node.0, line)) (refuse Syntax (past_white node.1)) in
+    let rest : Yaml × Text → Blocks = λ node. cond (ends_node node.1) (next_line node.1 >>= λ line. Ok (node.0, line))
+    (refuse Syntax (past_white node.1)) in
     record {
-      reads = when_ok (inline depth false t) (x, after) rest k.0 ∙ when_true (ends_node after) (next_line after >>= λ line. Ok (x, line)) (refuse Syntax (past_white after)) l.ends
+      reads = when_ok (inline depth false t) (x, after) rest k.0
+          ∙ when_true (ends_node after) (next_line after >>= λ line. Ok (x, line)) (refuse Syntax (past_white after)) l.ends
           ∙ when_ok (next_line after) next (λ line. Ok (x, line)) l.line;
       begun = k.1;
     }
@@ -216,7 +236,8 @@ Outside held column None = Unit {0}
 Outside held column (Some l) = (l.0 < column) ⊎ ((held ≡ true) × (l.0 ≡ column) × (is_dash l.1 ≡ false))
 
 abbrev pub BlockBack : (ℕ → Production) → Node → Type 0
-BlockBack block node = (held : Bool) (column : ℕ) (x : Yaml) (t after : Text) (next : Option Line) → Cuts (block column x) t after → Led after next → Outside held column next
+BlockBack block node = (held : Bool) (column : ℕ) (x : Yaml) (t after : Text) (next : Option Line) → Cuts (block column x) t after → Led after next
+    → Outside held column next
     → (held ≡ true → is_dash t ≡ true) → node held (column, t) ≡ Ok (x, next)
 
 abbrev pub BlockStarts : (ℕ → Production) → Type 0
@@ -249,17 +270,20 @@ below_none : (node : Node) (of_map : Bool) (column : ℕ) (next : Option Line) �
     → below node of_map column next ≡ Ok (Scalar [], next)
 below_none node of_map column None a = refl
 below_none node of_map column (Some l) a =
-    when_false (nat_lt column l.0) (node false l) _ a.0 ∙ when_false (of_map && (l.0 == column && is_dash l.1)) (node true l) (Ok (Scalar [], Some l)) a.1
+    when_false (nat_lt column l.0) (node false l) _ a.0
+    ∙ when_false (of_map && (l.0 == column && is_dash l.1)) (node true l) (Ok (Scalar [], Some l)) a.1
 
 below_deeper : (node : Node) (of_map : Bool) (column deeper : ℕ) (t : Text) → column < deeper
     → below node of_map column (Some (deeper, t)) ≡ node false (deeper, t)
-below_deeper node of_map column deeper t less = let e : nat_lt column deeper ≡ true = grind (arith, nat_tests) in when_true (nat_lt column deeper) (node false (deeper, t)) _ e
+below_deeper node of_map column deeper t less = let e : nat_lt column deeper ≡ true = grind (arith, nat_tests) in when_true (nat_lt column deeper)
+    (node false (deeper, t)) _ e
 
 below_level : (node : Node) (column : ℕ) (t : Text) → is_dash t ≡ true → below node true column (Some (column, t)) ≡ node true (column, t)
 below_level node column t d =
     let e : nat_lt column column ≡ false = grind (arith, nat_tests) in
     let f : (column == column) ≡ true = grind (arith, nat_tests) in
-    when_false (nat_lt column column) (node false (column, t)) _ e ∙ when_true (true && (column == column && is_dash t)) (node true (column, t)) _ (both_true (column == column) _ f d)
+    when_false (nat_lt column column) (node false (column, t)) _ e
+    ∙ when_true (true && (column == column && is_dash t)) (node true (column, t)) _ (both_true (column == column) _ f d)
 
 -- a node that a later line begins is read
 lower_back : (block : ℕ → Production) (node : Node) → BlockBack block node
@@ -268,19 +292,22 @@ lower_back : (block : ℕ → Production) (node : Node) → BlockBack block node
 lower_back block node back false column at x t after next c l a =
     let h = c.holds in
     let n : (false ≡ true → is_dash t ≡ true) = λ e. absurd cc in
-    below_deeper node false column at t h.0 ∙ back false at x t after next (record { part = c.part; whole = c.whole; holds = h.1 }) l (deeper_outside false column at next h.0 a) n
+    below_deeper node false column at t h.0 ∙ back false at x t after next (record { part = c.part; whole = c.whole; holds = h.1 }) l
+    (deeper_outside false column at next h.0 a) n
 lower_back block node back true column at x t after next c l a = go c.holds.0
   where
     inner : Cuts (block at x) t after
     inner = record { part = c.part; whole = c.whole; holds = c.holds.1 }
 
     go : (column < at) ⊎ ((at ≡ column) × (is_dash c.part ≡ true)) → below node true column (Some (at, t)) ≡ Ok (x, next)
-    go (inl less) = below_deeper node true column at t less ∙ back false at x t after next inner l (deeper_outside true column at next less a) (λ e. absurd cc)
+    go (inl less) = below_deeper node true column at t less
+        ∙ back false at x t after next inner l (deeper_outside true column at next less a) (λ e. absurd cc)
     go (inr h) =
         let dash : is_dash t ≡ true = ap is_dash c.whole ∙ dash_more c.part after (node_gap after l.ends) h.1 in
         let P : ℕ → Type 0 = λ k. below node true column (Some (k, t)) ≡ node true (k, t) in
         let Q : ℕ → Type 0 = λ k. Outside true k next in
-        subst P (sym h.0) (below_level node column t dash) ∙ back true at x t after next inner l (subst Q (sym h.0) (level_outside column next a)) (λ _. dash)
+        subst P (sym h.0) (below_level node column t dash)
+        ∙ back true at x t after next inner l (subst Q (sym h.0) (level_outside column next a)) (λ _. dash)
 
 lower_start : (block : ℕ → Production) → BlockStarts block → (of_map : Bool) (column at : ℕ) (x : Yaml) (t after : Text)
     → Cuts (Lower of_map block column at x) t after → ends_node after ≡ true → IsStart at t
@@ -299,8 +326,10 @@ some_past (b ∷ s) t h stop = white_over (b ∷ s) t h ∙ no_white t (gapless 
 
 stop_open : (s t : Text) → past_white (s ++ t) ≡ t → IsStop t → ends_node (s ++ t) ≡ true → ⊥
 stop_open s t e stop f =
-    let seen : (ends_line t || (begins_white (s ++ t) && sees 35 t)) ≡ true = ap (λ (x : Text). ends_line x || (begins_white (s ++ t) && sees 35 x)) (sym e) ∙ f in
-    either (ends_line t) (begins_white (s ++ t) && sees 35 t) (λ g. differ g (no_line t stop.no_gap)) (λ g. differ (second_of_both (begins_white (s ++ t)) (sees 35 t) g) stop.no_hash) seen
+    let seen : (ends_line t || (begins_white (s ++ t) && sees 35 t)) ≡ true = ap (λ (x : Text). ends_line x || (begins_white (s ++ t) && sees 35 x))
+    (sym e) ∙ f in
+    either (ends_line t) (begins_white (s ++ t) && sees 35 t) (λ g. differ g (no_line t stop.no_gap))
+    (λ g. differ (second_of_both (begins_white (s ++ t)) (sees 35 t) g) stop.no_hash) seen
   where
     no_line : (u : Text) → is_gap u ≡ false → ends_line u ≡ false
     no_line [] k = k
@@ -308,11 +337,13 @@ stop_open s t e stop f =
 
 pub beside_back : (depth : ℕ) (block : ℕ → Production) (node : Node) → BlockBack block node → BlockStarts block
     → (of_map : Bool) (column : ℕ) (x : Yaml) (v after : Text) (next : Option Line)
-    → IsBeside (IsInline depth false) (Lower of_map block column) x v → Led after next → Apart of_map column next → BesideBack node depth of_map column x (v ++ after) next
+    → IsBeside (IsInline depth false) (Lower of_map block column) x v → Led after next → Apart of_map column next
+    → BesideBack node depth of_map column x (v ++ after) next
 beside_back depth block node back starts of_map column x v after next (nothing e f) l a =
     let P : Text → Type 0 = λ s. BesideBack node depth of_map column x (s ++ after) next in
     subst P (sym f) (record {
-      later = λ _. when_ok (next_line after) next (below node of_map column) l.line ∙ below_none node of_map column next a ∙ ap (λ (y : Yaml). Ok (y, next)) (sym e);
+      later = λ _. when_ok (next_line after) next (below node of_map column) l.line ∙ below_none node of_map column next a
+          ∙ ap (λ (y : Yaml). Ok (y, next)) (sym e);
       same = λ g. absurd (differ l.ends g);
       open_text = λ g. absurd (differ l.ends g);
     })
@@ -320,7 +351,8 @@ beside_back depth block node back starts of_map column x v after next (same_line
     let k = split (whole_cut v after h) in
     let r = alone_back depth x k.middle after next k.back l in
     let past : past_white (v ++ after) ≡ k.middle = ap past_white k.front.whole ∙ some_past k.front.part k.middle k.front.holds r.begun.stop in
-    let closed : ends_node (v ++ after) ≡ true → ⊥ = λ e. stop_open k.front.part k.middle (some_past k.front.part k.middle k.front.holds r.begun.stop) r.begun.stop (ap ends_node (sym k.front.whole) ∙ e) in
+    let closed : ends_node (v ++ after) ≡ true → ⊥ = λ e. stop_open k.front.part k.middle
+    (some_past k.front.part k.middle k.front.holds r.begun.stop) r.begun.stop (ap ends_node (sym k.front.whole) ∙ e) in
     record {
       later = λ e. absurd (closed e);
       same = λ _. ap (alone depth) past ∙ r.reads;
@@ -333,7 +365,8 @@ beside_back depth block node back starts of_map column x v after next (later_lin
     let start = lower_start block starts of_map column at x k.middle after k.back l.ends in
     let led = line_led at (v ++ after) k.middle k.front start.stop start.no_marker in
     record {
-      later = λ _. when_ok (next_line (v ++ after)) (Some (at, k.middle)) (below node of_map column) led.line ∙ lower_back block node back of_map column at x k.middle after next k.back l a;
+      later = λ _. when_ok (next_line (v ++ after)) (Some (at, k.middle)) (below node of_map column) led.line
+          ∙ lower_back block node back of_map column at x k.middle after next k.back l a;
       same = λ e. absurd (differ led.ends e);
       open_text = λ e. absurd (differ led.ends e);
     }
@@ -343,7 +376,8 @@ value_back : (depth : ℕ) (node : Node) (column : ℕ) (x : Yaml) (t : Text) (n
 unfolding map_value
 value_back depth node column x t next b = go (ends_node t) refl
   where
-    go : (c : Bool) → ends_node t ≡ c → cond (ends_node t) (next_line t >>= λ line. below node true column line) (alone depth (past_white t)) ≡ Ok (x, next)
+    go : (c : Bool) → ends_node t ≡ c → cond (ends_node t) (next_line t >>= λ line. below node true column line) (alone depth (past_white t)) ≡ Ok
+        (x, next)
     go true e = when_true (ends_node t) _ (alone depth (past_white t)) e ∙ b.later e
     go false e = when_false (ends_node t) _ (alone depth (past_white t)) e ∙ b.same e
 
@@ -353,11 +387,14 @@ unfolding item
 item_back depth node column x t next b = go (ends_node t) refl
   where
     rest : Blocks
-    rest = unless (left_out (past_white t)) (past_white t) (cond (is_dash (past_white t) || has_key (past_white t)) (refuse (LeftOut Compact) (past_white t)) (alone depth (past_white t)))
+    rest = unless (left_out (past_white t)) (past_white t)
+        (cond (is_dash (past_white t) || has_key (past_white t)) (refuse (LeftOut Compact) (past_white t)) (alone depth (past_white t)))
 
     go : (c : Bool) → ends_node t ≡ c
         → cond (ends_node t) (next_line t >>= λ line. below node false column line)
-        (unless (left_out (past_white t)) (past_white t) (cond (is_dash (past_white t) || has_key (past_white t)) (refuse (LeftOut Compact) (past_white t)) (alone depth (past_white t)))) ≡ Ok (x, next)
+        (unless (left_out (past_white t)) (past_white t)
+        (cond (is_dash (past_white t) || has_key (past_white t)) (refuse (LeftOut Compact) (past_white t)) (alone depth (past_white t)))) ≡ Ok
+        (x, next)
     go true e = when_true (ends_node t) _ _ e ∙ b.later e
     go false e =
         let u = past_white t in
@@ -379,7 +416,8 @@ key_firm : (name key value : Text) → IsKey false name key value → Firm key
 key_firm name key value (quoted h) =
     let P : Text → Type 0 = λ y. Firm y in
     let k = h.is_second in
-    subst P (sym (h.parts ∙ ap (λ (y : Text). h.first ++ y) (k.parts ∙ ap (λ (y : Text). k.first ++ y) k.is_second) ∙ sym (append_assoc h.first k.first (58 ∷ [])))) (colon_firm (h.first ++ k.first))
+    subst P (sym (h.parts ∙ ap (λ (y : Text). h.first ++ y) (k.parts ∙ ap (λ (y : Text). k.first ++ y) k.is_second)
+    ∙ sym (append_assoc h.first k.first (58 ∷ [])))) (colon_firm (h.first ++ k.first))
 key_firm name key value (plain_key white w h e f) =
     let P : Text → Type 0 = λ y. Firm y in subst P (sym (e ∙ sym (append_assoc name white (58 ∷ [])))) (colon_firm (name ++ white))
 
@@ -400,35 +438,41 @@ entry_text inline block column p t after c g =
       is_value = h.is_value;
       key = subst P (sym whole) (key_back false (name_of p) h.key h.value rest h.is_key (λ _. gap_closed rest gap));
       gap = gap;
-      no_marker = ap (λ (y : Text). is_marker (column, y)) whole ∙ marker_back column h.key rest gap (key_firm (name_of p) h.key h.value h.is_key) h.no_marker;
+      no_marker = ap (λ (y : Text). is_marker (column, y)) whole
+          ∙ marker_back column h.key rest gap (key_firm (name_of p) h.key h.value h.is_key) h.no_marker;
     }
 
 pub entry_key_back : (name t rest : Text) → KeyBack false name t rest → is_gap rest ≡ true → entry_key t ≡ Ok (name, rest)
 unfolding entry_key
 entry_key_back name t rest k g =
     let last_step : key_end t (name, k.rest) ≡ Ok (name, rest) =
-    ap (λ (u : Text). cond (sees 58 u && is_gap (drop 1 u)) (Ok (name, drop 1 u)) (refuse Syntax t)) k.colon ∙ when_true (is_gap rest) (Ok (name, rest)) (refuse Syntax t) g in
+    ap (λ (u : Text). cond (sees 58 u && is_gap (drop 1 u)) (Ok (name, drop 1 u)) (refuse Syntax t)) k.colon
+    ∙ when_true (is_gap rest) (Ok (name, rest)) (refuse Syntax t) g in
     when_false (is_dash t) (refuse Syntax t) _ k.back.begins.begun.dash ∙ when_ok (scalar false t) (name, k.rest) (key_end t) k.back.reads ∙ last_step
 
 new_entry_back : (found : List Pair) (name t rest : Text) → KeyBack false name t rest → is_gap rest ≡ true → has_name name found ≡ false
     → new_entry found t ≡ Ok (name, rest)
 unfolding new_entry
 new_entry_back found name t rest k g new =
-    admit (left_out t) t _ k.back.begins.begun.out ∙ when_ok (entry_key t) (name, rest) (λ key. cond (has_name key.0 found) (refuse RepeatedKey t) (Ok key)) (entry_key_back name t rest k g)
+    admit (left_out t) t _ k.back.begins.begun.out
+    ∙ when_ok (entry_key t) (name, rest) (λ key. cond (has_name key.0 found) (refuse RepeatedKey t) (Ok key)) (entry_key_back name t rest k g)
     ∙ when_false (has_name name found) (refuse RepeatedKey t) (Ok (name, rest)) new
 
 -- the entry, and what comes after it
 pub one_entry : (depth : ℕ) (block : ℕ → Production) (node : Node) → BlockBack block node → BlockStarts block
     → (column n : ℕ) (found : List Pair) (p : Pair) (t after : Text) (next : Option Line)
     → Cuts (IsEntry (IsInline depth false) block column p) t after → Led after next → Apart true column next → has_name (name_of p) found ≡ false
-    → entries node depth column (suc n) found t ≡ after_entry (Map (found ++ p ∷ [])) column (λ l. entries node depth column n (found ++ p ∷ []) l.1) next
+    → entries node depth column (suc n) found t ≡ after_entry (Map (found ++ p ∷ [])) column
+    (λ l. entries node depth column n (found ++ p ∷ []) l.1) next
 unfolding entries
 one_entry depth block node back starts column n found p t after next c l a new =
     let e = entry_text (IsInline depth false) block column p t after c (node_gap after l.ends) in
     let rest = e.value ++ after in
     let b = beside_back depth block node back starts true column (value_of p) e.value after next e.is_value l a in
-    let go : List ℕ → Yaml × Option Line → Blocks = λ name v. after_entry (Map (found ++ pair name v.0 ∷ [])) column (λ k. entries node depth column n (found ++ pair name v.0 ∷ []) k.1) v.1 in
-    when_ok (new_entry found t) (name_of p, rest) (λ key. map_value node depth column key.1 >>= go key.0) (new_entry_back found (name_of p) t rest e.key e.gap new)
+    let go : List ℕ → Yaml × Option Line → Blocks = λ name v. after_entry (Map (found ++ pair name v.0 ∷ [])) column
+    (λ k. entries node depth column n (found ++ pair name v.0 ∷ []) k.1) v.1 in
+    when_ok (new_entry found t) (name_of p, rest) (λ key. map_value node depth column key.1 >>= go key.0)
+    (new_entry_back found (name_of p) t rest e.key e.gap new)
     ∙ when_ok (map_value node depth column rest) (value_of p, next) (go (name_of p)) (value_back depth node column (value_of p) rest next b)
 
 pub outside_apart : (of_map held : Bool) (column : ℕ) (next : Option Line) → (of_map ≡ true → held ≡ false) → Outside held column next
@@ -455,10 +499,12 @@ outside_apart of_map held column (Some l) only (inr h) =
 pub after_mapping : (whole : Yaml) (column : ℕ) (go_on : Line → Blocks) (next : Option Line) → Outside false column next
     → after_entry whole column go_on next ≡ Ok (whole, next)
 after_mapping whole column go_on None o = refl
-after_mapping whole column go_on (Some l) (inl less) = let e : nat_lt l.0 column ≡ true = grind (arith, nat_tests) in when_true (nat_lt l.0 column) (Ok (whole, Some l)) _ e
+after_mapping whole column go_on (Some l) (inl less) = let e : nat_lt l.0 column ≡ true = grind (arith, nat_tests) in when_true (nat_lt l.0 column)
+    (Ok (whole, Some l)) _ e
 after_mapping whole column go_on (Some l) (inr h) = absurd cc
 
 -- the line of the next entry
 pub at_column : (whole : Yaml) (column : ℕ) (go_on : Line → Blocks) (t : Text) → after_entry whole column go_on (Some (column, t)) ≡ go_on (column, t)
 at_column whole column go_on t =
-    let e : nat_lt column column ≡ false = grind (arith, nat_tests) in when_false (nat_lt column column) (Ok (whole, Some (column, t))) _ e ∙ when_false (nat_lt column column) _ (go_on (column, t)) e
+    let e : nat_lt column column ≡ false = grind (arith, nat_tests) in when_false (nat_lt column column) (Ok (whole, Some (column, t))) _ e
+    ∙ when_false (nat_lt column column) _ (go_on (column, t)) e

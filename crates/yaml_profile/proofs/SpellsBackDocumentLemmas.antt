@@ -86,7 +86,8 @@ empty_start t (inr h) =
     let k = split (all_cut {P = P} t h) in
     let l = split k.back in
     let Q : Text → Type 0 = λ x. ToEnd x in
-    marked_start t k.middle l.middle None k.front l.front (end_led l.middle (subst Q (sym (l.back.whole ∙ sym (append_nil l.back.part))) l.back.holds))
+    marked_start t k.middle l.middle None k.front l.front
+    (end_led l.middle (subst Q (sym (l.back.whole ∙ sym (append_nil l.back.part))) l.back.holds))
 
 read_by : (t : Text) (next : Option Line) (tree : Yaml) → first_of t ≡ Ok next → (root next >>= ended) ≡ Ok tree → document t ≡ Ok tree
 unfolding document
@@ -115,7 +116,8 @@ spelled_document t tree (node column h) =
     let percent : (column == 0 && sees 37 text) ≡ false = refuted (column == 0 && sees 37 text) (sees 37 text) (behind (column == 0)) start.percent in
     read_by t (Some (column, text)) tree (node_start column t text k.front start)
     (ap (λ (r : Result (Yaml × Option Line) Refusal). r >>= ended)
-    (when_false (column == 0 && sees 37 text) (refuse (LeftOut Directive) text) (block 64 false (column, text)) percent ∙ block_back 64 false column tree text l.middle None l.front led tt (λ e. absurd cc)))
+    (when_false (column == 0 && sees 37 text) (refuse (LeftOut Directive) text) (block 64 false (column, text)) percent
+    ∙ block_back 64 false column tree text l.middle None l.front led tt (λ e. absurd cc)))
   where
     behind : {x : Bool} (c : Bool) → (c && x) ≡ true → x ≡ true
     behind true e = e

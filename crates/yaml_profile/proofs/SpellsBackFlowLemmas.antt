@@ -39,7 +39,8 @@ new_name [] p ps h = refl
 new_name (q ∷ found) p ps h = false_or (bytes_eq (name_of p) (name_of q)) _ (go (bytes_eq (name_of p) (name_of q)) refl) (new_name found p ps h.1)
   where
     go : (c : Bool) → bytes_eq (name_of p) (name_of q) ≡ c → bytes_eq (name_of p) (name_of q) ≡ false
-    go true e = let P : List ℕ → Type 0 = λ n. In n (map name_of (found ++ p ∷ ps)) in absurd (h.0 (subst P ((bytes_eq-Decides (name_of p) (name_of q)).0 e) (in_middle p found ps)))
+    go true e = let P : List ℕ → Type 0 = λ n. In n (map name_of (found ++ p ∷ ps)) in absurd
+        (h.0 (subst P ((bytes_eq-Decides (name_of p) (name_of q)).0 e) (in_middle p found ps)))
     go false e = e
 
 pub distinct_along : (found : List Pair) (p : Pair) (ps : List Pair) → Distinct (found ++ p ∷ ps) → Distinct ((found ++ p ∷ []) ++ ps)
@@ -103,7 +104,8 @@ item_from node n found u =
 
 one_item : (P : Production) (node : Reader Yaml) → NodeBack P node → (n : ℕ) (found : List Yaml) (x : Yaml) (b : ℕ) (t rest : Text)
     → is_flow_mark b ≡ true
-    → Cuts (IsSpace and_then P x and_then IsSpace and_then Is b) t rest → items node (suc n) found t ≡ after_item (items node n) (found ++ x ∷ []) (b ∷ rest)
+    → Cuts (IsSpace and_then P x and_then IsSpace and_then Is b) t rest
+    → items node (suc n) found t ≡ after_item (items node n) (found ++ x ∷ []) (b ∷ rest)
 unfolding items
 one_item P node back n found x b t rest m c =
     let k = between (P x) b t rest c m in
@@ -123,8 +125,10 @@ items_back P node back (suc n) found xs s rest (none c) less =
 items_back P node back (suc n) found xs s rest (last {x = x} c) less = one_item P node back n found x 93 (s ++ rest) rest refl (whole_cut s rest c)
 items_back P node back (suc n) found xs s rest (more {x = x} {xs = ys} first next c h e) less =
     let whole : s ++ rest ≡ first ++ (next ++ rest) = ap (λ (y : Text). y ++ rest) e ∙ append_assoc first next rest in
-    let shorter : length (next ++ rest) < n = (let l = full_shorter first (next ++ rest) (mark_full IsSpace (P x) IsSpace 44 first c) in let k = ap length whole in omega arith) in
-    ap (items node (suc n) found) whole ∙ one_item P node back n found x 44 (first ++ (next ++ rest)) (next ++ rest) refl (whole_cut first (next ++ rest) c)
+    let shorter : length (next ++ rest) < n = (let l = full_shorter first (next ++ rest)
+    (mark_full IsSpace (P x) IsSpace 44 first c) in let k = ap length whole in omega arith) in
+    ap (items node (suc n) found) whole ∙ one_item P node back n found x 44 (first ++ (next ++ rest)) (next ++ rest) refl
+    (whole_cut first (next ++ rest) c)
     ∙ items_back P node back n (found ++ x ∷ []) ys next rest h shorter ∙ ap (λ (l : List Yaml). Ok (Seq l, rest)) (append_assoc found (x ∷ []) ys)
 
 -- ---- flow mappings
@@ -169,7 +173,8 @@ value_back P node back x value after rest t b (inl h) colon closed mark m two =
       mark = mark;
     }
 value_back P node back x value after rest t b (inr h) colon closed mark m two =
-    let none_there = ap (value_from node rest) (colon ∙ ap (λ (y : Text). 58 ∷ (y ++ after)) h.1) ∙ ap (value_or_none node) mark ∙ when_true (b == 44 || b == 125) (Ok (Scalar [], b ∷ t)) _ two in
+    let none_there = ap (value_from node rest) (colon ∙ ap (λ (y : Text). 58 ∷ (y ++ after)) h.1) ∙ ap (value_or_none node) mark
+    ∙ when_true (b == 44 || b == 125) (Ok (Scalar [], b ∷ t)) _ two in
     record {
       end = b ∷ t;
       reads = none_there ∙ ap (λ (y : Yaml). Ok (y, b ∷ t)) (sym h.0);
@@ -184,7 +189,8 @@ pair_from node n found u =
 key_read : (found : List Pair) (name t rest : Text) → ScalarBack true name t rest → has_name name found ≡ false → new_key found t ≡ Ok (name, rest)
 unfolding new_key
 key_read found name t rest k new =
-    admit (left_out t) t _ k.begins.begun.out ∙ when_ok (scalar true t) (name, rest) (λ key. cond (has_name key.0 found) (refuse RepeatedKey t) (Ok key)) k.reads
+    admit (left_out t) t _ k.begins.begun.out ∙ when_ok (scalar true t) (name, rest)
+    (λ key. cond (has_name key.0 found) (refuse RepeatedKey t) (Ok key)) k.reads
     ∙ when_false (has_name name found) (refuse RepeatedKey t) (Ok (name, rest)) new
 
 pair_key : (P : Production) (p : Pair) (start after : Text) → IsClosed after → (c : Cuts (IsFlowPair P p) start after)
@@ -193,7 +199,8 @@ pair_key P p start after closed c =
     let h = c.holds in
     let whole : start ≡ h.key ++ (h.value ++ after) = c.whole ∙ ap (λ (x : Text). x ++ after) h.parts ∙ append_assoc h.key h.value after in
     let Q : Text → Type 0 = λ x. KeyBack true (name_of p) x (h.value ++ after) in
-    subst Q (sym whole) (key_back true (name_of p) h.key h.value (h.value ++ after) h.is_key (value_closes h.value after (closed_closes after closed)))
+    subst Q (sym whole) (key_back true (name_of p) h.key h.value (h.value ++ after) h.is_key
+    (value_closes h.value after (closed_closes after closed)))
 
 one_pair : (P : Production) (node : Reader Yaml) → NodeBack P node → (n : ℕ) (found : List Pair) (p : Pair) (b : ℕ) (t rest : Text)
     → is_flow_mark b ≡ true → (b == 44 || b == 125) ≡ true
@@ -208,8 +215,11 @@ one_pair P node back n found p b t rest m two new c =
     let value = value_back P node back (tree.value_of p) h.value k.after key.rest rest b h.is_value key.colon k.closed k.mark m two in
     ap (pair_from node n found) (space_passed t k.start k.before begun.stop)
     ∙ when_false (sees 125 k.start) (Ok (Map found, drop 1 k.start)) _ begun.brace
-    ∙ when_ok (new_key found k.start) (name_of p, key.rest) (λ l. value_of node l.1 >>= λ v. after_pair (pairs node n) (found ++ pair l.0 v.0 ∷ []) (spaced v.1)) (key_read found (name_of p) k.start key.rest key.back new)
-    ∙ when_ok (value_of node key.rest) (tree.value_of p, value.end) (λ v. after_pair (pairs node n) (found ++ pair (name_of p) v.0 ∷ []) (spaced v.1)) value.reads
+    ∙ when_ok (new_key found k.start) (name_of p, key.rest)
+    (λ l. value_of node l.1 >>= λ v. after_pair (pairs node n) (found ++ pair l.0 v.0 ∷ []) (spaced v.1))
+    (key_read found (name_of p) k.start key.rest key.back new)
+    ∙ when_ok (value_of node key.rest) (tree.value_of p, value.end)
+    (λ v. after_pair (pairs node n) (found ++ pair (name_of p) v.0 ∷ []) (spaced v.1)) value.reads
     ∙ ap (after_pair (pairs node n) (found ++ p ∷ [])) value.mark
 
 pairs_back : (P : Production) (node : Reader Yaml) → NodeBack P node → (n : ℕ) (found ps : List Pair) (s rest : Text)
@@ -219,12 +229,16 @@ unfolding pairs
 pairs_back P node back zero found ps s rest h less d = absurd (omega arith)
 pairs_back P node back (suc n) found ps s rest (none c) less d =
     ap (pair_from node n found) (marked 125 (s ++ rest) rest (whole_cut s rest c) refl).0 ∙ ap (λ (y : Yaml). Ok (y, rest)) (map_none found)
-pairs_back P node back (suc n) found ps s rest (last {x = p} c) less d = one_pair P node back n found p 125 (s ++ rest) rest refl refl (new_name found p [] d) (whole_cut s rest c)
+pairs_back P node back (suc n) found ps s rest (last {x = p} c) less d = one_pair P node back n found p 125 (s ++ rest) rest refl refl
+    (new_name found p [] d) (whole_cut s rest c)
 pairs_back P node back (suc n) found ps s rest (more {x = p} {xs = qs} first next c h e) less d =
     let whole : s ++ rest ≡ first ++ (next ++ rest) = ap (λ (y : Text). y ++ rest) e ∙ append_assoc first next rest in
-    let shorter : length (next ++ rest) < n = (let l = full_shorter first (next ++ rest) (mark_full IsSpace (IsFlowPair P p) IsSpace 44 first c) in let k = ap length whole in omega arith) in
-    ap (pairs node (suc n) found) whole ∙ one_pair P node back n found p 44 (first ++ (next ++ rest)) (next ++ rest) refl refl (new_name found p qs d) (whole_cut first (next ++ rest) c)
-    ∙ pairs_back P node back n (found ++ p ∷ []) qs next rest h shorter (distinct_along found p qs d) ∙ ap (λ (l : List Pair). Ok (Map l, rest)) (append_assoc found (p ∷ []) qs)
+    let shorter : length (next ++ rest) < n = (let l = full_shorter first (next ++ rest)
+    (mark_full IsSpace (IsFlowPair P p) IsSpace 44 first c) in let k = ap length whole in omega arith) in
+    ap (pairs node (suc n) found) whole ∙ one_pair P node back n found p 44 (first ++ (next ++ rest)) (next ++ rest) refl refl
+    (new_name found p qs d) (whole_cut first (next ++ rest) c)
+    ∙ pairs_back P node back n (found ++ p ∷ []) qs next rest h shorter (distinct_along found p qs d)
+    ∙ ap (λ (l : List Pair). Ok (Map l, rest)) (append_assoc found (p ∷ []) qs)
 
 -- ---- inline nodes
 
@@ -240,11 +254,14 @@ abbrev text_of : List ℕ × Text → Outcome Yaml
 text_of text = Ok (Scalar text.0, text.1)
 
 text_back : (flow : Bool) (x : Yaml) (t rest : Text) (seq map : Outcome Yaml) → Cuts (IsText flow x) t rest → IsOver flow rest
-    → (unless (left_out t) t (cond (sees 91 t) seq (cond (sees 123 t) map (scalar flow t >>= λ text. Ok (Scalar text.0, text.1)))) ≡ Ok (x, rest)) × IsBegun t
+    → (unless (left_out t) t (cond (sees 91 t) seq (cond (sees 123 t) map (scalar flow t >>= λ text. Ok (Scalar text.0, text.1)))) ≡ Ok
+    (x, rest)) × IsBegun t
 text_back flow x t rest seq map c over =
     let h = c.holds in
-    let k = scalar_back flow h.text t rest (widen (λ s n. n) (record { part = c.part; whole = c.whole; holds = h.is_scalar })) over.no_quote over.ended in (
-      admit (left_out t) t _ k.begins.begun.out ∙ when_false (sees 91 t) seq _ k.begins.no_sequence ∙ when_false (sees 123 t) map _ k.begins.no_mapping
+    let k = scalar_back flow h.text t rest (widen (λ s n. n)
+    (record { part = c.part; whole = c.whole; holds = h.is_scalar })) over.no_quote over.ended in (
+      admit (left_out t) t _ k.begins.begun.out ∙ when_false (sees 91 t) seq _ k.begins.no_sequence
+          ∙ when_false (sees 123 t) map _ k.begins.no_mapping
           ∙ when_ok (scalar flow t) (h.text, rest) text_of k.reads ∙ ap (λ (y : Yaml). Ok (y, rest)) (sym h.same),
       k.begins.begun,
     )
@@ -265,7 +282,8 @@ flow_back depth flow x t s rest back e (sequence xs same h) =
     let u = h.second ++ rest in
     let whole : t ≡ 91 ∷ u = e ∙ ap (λ (y : Text). y ++ rest) (h.parts ∙ ap (λ (y : Text). y ++ h.second) h.is_first) in
     let Q : Text → Type 0 = λ y. IsBegun y in (
-      ap (inline (suc depth) flow) whole ∙ items_back (IsInline depth true) (inline depth true) back (suc (length u)) [] xs h.second rest h.is_second (omega arith)
+      ap (inline (suc depth) flow) whole ∙ items_back (IsInline depth true) (inline depth true) back (suc (length u)) [] xs h.second rest h.is_second
+          (omega arith)
           ∙ ap (λ (y : Yaml). Ok (y, rest)) (sym same),
       subst Q (sym whole) (bracket_begun u),
     )
@@ -273,7 +291,8 @@ flow_back depth flow x t s rest back e (mapping ps same d h) =
     let u = h.second ++ rest in
     let whole : t ≡ 123 ∷ u = e ∙ ap (λ (y : Text). y ++ rest) (h.parts ∙ ap (λ (y : Text). y ++ h.second) h.is_first) in
     let Q : Text → Type 0 = λ y. IsBegun y in (
-      ap (inline (suc depth) flow) whole ∙ pairs_back (IsInline depth true) (inline depth true) back (suc (length u)) [] ps h.second rest h.is_second (omega arith) d
+      ap (inline (suc depth) flow) whole ∙ pairs_back (IsInline depth true) (inline depth true) back (suc (length u)) [] ps h.second rest h.is_second
+          (omega arith) d
           ∙ ap (λ (y : Yaml). Ok (y, rest)) (sym same),
       subst Q (sym whole) (brace_begun u),
     )

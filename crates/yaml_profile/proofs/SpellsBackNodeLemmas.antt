@@ -30,7 +30,8 @@ break_full s (inr h) = full_by (h.first ++ h.second) s h.parts (append_full h.fi
 line_full : (column : ℕ) (s : Text) → ToLine column s → IsFull s
 line_full column s h =
     let k = h.is_second in
-    full_by (h.first ++ h.second) s h.parts (full_append h.first h.second (full_by (k.first ++ k.second) h.second k.parts (append_full k.first k.second (break_full k.first k.is_first))))
+    full_by (h.first ++ h.second) s h.parts (full_append h.first h.second
+    (full_by (k.first ++ k.second) h.second k.parts (append_full k.first k.second (break_full k.first k.is_first))))
 
 entry_full : {P : Text → Type 0} (column : ℕ) (s : Text) → (P and_then ToLine column) s → IsFull s
 entry_full column s h = full_by (h.first ++ h.second) s h.parts (full_append h.first h.second (line_full column h.second h.is_second))
@@ -49,7 +50,13 @@ entry_first : (inline : Production) (block : ℕ → Production) (column : ℕ) 
 entry_first inline block column p t after c g =
     let e = entry_text inline block column p t after c g in
     let b = e.key.back.begins.begun in
-    record { start = begun_start column t b e.no_marker; dash = b.dash; out = b.out; key = ap is_found (entry_key_back _ t (e.value ++ after) e.key e.gap) }
+    record {
+      start = begun_start column t b e.no_marker;
+      dash = b.dash;
+      out = b.out;
+      key = ap is_found
+          (entry_key_back _ t (e.value ++ after) e.key e.gap);
+    }
 
 entries_text : (inline : Production) (block : ℕ → Production) (column : ℕ) (ps : List Pair) (s after : Text)
     → IsJoined column (IsEntry inline block column) ps s → is_gap after ≡ true → EntriesText column (s ++ after)
@@ -59,15 +66,18 @@ entries_text inline block column ps s after (more {x = p} first rest h j e) g =
     let k = split (whole_cut first u h) in
     let gap : is_gap k.middle ≡ true = ap is_gap k.back.whole ∙ line_begins column k.back.part u k.back.holds in
     let P : Text → Type 0 = λ x. EntriesText column x in
-    subst P (sym (ap (λ (x : Text). x ++ after) e ∙ append_assoc first rest after)) (entry_first inline block column p (first ++ u) k.middle k.front gap)
+    subst P (sym (ap (λ (x : Text). x ++ after) e ∙ append_assoc first rest after))
+    (entry_first inline block column p (first ++ u) k.middle k.front gap)
 
 entries_back : (depth : ℕ) (block : ℕ → Production) (node : Node) → BlockBack block node → BlockStarts block
     → (column n : ℕ) (found ps : List Pair) (s after : Text) (next : Option Line)
-    → IsJoined column (IsEntry (IsInline depth false) block column) ps s → Led after next → Outside false column next → Distinct (found ++ ps) → length (s ++ after) < n
+    → IsJoined column (IsEntry (IsInline depth false) block column) ps s → Led after next → Outside false column next → Distinct (found ++ ps)
+    → length (s ++ after) < n
     → entries node depth column n found (s ++ after) ≡ Ok (Map (found ++ ps), next)
 entries_back depth block node back starts column zero found ps s after next j l o d less = absurd (omega arith)
 entries_back depth block node back starts column (suc n) found ps s after next (last {x = p} h) l o d less =
-    one_entry depth block node back starts column n found p (s ++ after) after next (whole_cut s after h) l (outside_apart true false column next (λ _. refl) o) (new_name found p [] d)
+    one_entry depth block node back starts column n found p (s ++ after) after next (whole_cut s after h) l
+    (outside_apart true false column next (λ _. refl) o) (new_name found p [] d)
     ∙ after_mapping (Map (found ++ p ∷ [])) column _ next o
 entries_back depth block node back starts column (suc n) found ps s after next (more {x = p} {xs = qs} first rest h j e) l o d less =
     let I : Production = IsInline depth false in
@@ -93,7 +103,8 @@ dash_marker column t g =
     refuted (is_marker (column, 45 ∷ t)) false (λ e.
     let both = is_three 45 (45 ∷ t) || is_three 46 (45 ∷ t) in
     either (is_three 45 (45 ∷ t)) (is_three 46 (45 ∷ t))
-    (λ f. absurd (differ (first_of_both (sees 45 t) (sees 45 (drop 1 t)) (first_of_both (sees 45 t && sees 45 (drop 1 t)) (is_gap (drop 2 t)) f)) (gap_other 45 t refl refl g)))
+    (λ f. absurd (differ (first_of_both (sees 45 t) (sees 45 (drop 1 t)) (first_of_both (sees 45 t && sees 45 (drop 1 t)) (is_gap (drop 2 t)) f))
+    (gap_other 45 t refl refl g)))
     (λ f. f) (second_of_both (column == 0) both e)) refl
 
 -- the text of items, with what ends their last line
@@ -113,7 +124,8 @@ item_first : (inline : Production) (block : ℕ → Production) (column : ℕ) (
     → is_gap after ≡ true → ItemsText column t
 item_first inline block column x t after c g =
     let k = split c in
-    let gap : is_gap k.middle ≡ true = ap is_gap k.back.whole ∙ gap_more k.back.part after (beside_gap inline (IsDeeper block column) x k.back.part k.back.holds) g in
+    let gap : is_gap k.middle ≡ true = ap is_gap k.back.whole
+    ∙ gap_more k.back.part after (beside_gap inline (IsDeeper block column) x k.back.part k.back.holds) g in
     let P : Text → Type 0 = λ y. ItemsText column y in subst P (sym (one_cut k.front)) (dash_text column k.middle gap)
 
 items_text : (inline : Production) (block : ℕ → Production) (column : ℕ) (xs : List Yaml) (s after : Text)
@@ -124,7 +136,8 @@ items_text inline block column xs s after (more {x = x} first rest h j e) g =
     let k = split (whole_cut first u h) in
     let gap : is_gap k.middle ≡ true = ap is_gap k.back.whole ∙ line_begins column k.back.part u k.back.holds in
     let P : Text → Type 0 = λ y. ItemsText column y in
-    subst P (sym (ap (λ (y : Text). y ++ after) e ∙ append_assoc first rest after)) (item_first inline block column x (first ++ u) k.middle k.front gap)
+    subst P (sym (ap (λ (y : Text). y ++ after) e ∙ append_assoc first rest after))
+    (item_first inline block column x (first ++ u) k.middle k.front gap)
 
 -- the item, and what comes after it
 one_item : (depth : ℕ) (block : ℕ → Production) (node : Node) → BlockBack block node → BlockStarts block
@@ -136,7 +149,8 @@ unfolding dashes
 one_item depth block node back starts held column n found x t after next c l a =
     let k = split c in
     let rest : Yaml × Option Line → Blocks = λ v.
-    after_entry (Seq (found ++ v.0 ∷ [])) column (after_dash held (Seq (found ++ v.0 ∷ [])) (dashes node depth held column n (found ++ v.0 ∷ []))) v.1 in
+    after_entry (Seq (found ++ v.0 ∷ [])) column (after_dash held (Seq (found ++ v.0 ∷ []))
+    (dashes node depth held column n (found ++ v.0 ∷ []))) v.1 in
     let b = beside_back depth block node back starts false column x k.back.part after next k.back.holds l a in
     ap (dashes node depth held column (suc n) found) (one_cut k.front ∙ ap (λ (y : Text). 45 ∷ y) k.back.whole)
     ∙ when_ok (item node depth column (k.back.part ++ after)) (x, next) rest (item_back depth node column x (k.back.part ++ after) next b)
@@ -145,7 +159,8 @@ one_item depth block node back starts held column n found x t after next c l a =
 after_sequence : (held : Bool) (whole : Yaml) (column : ℕ) (go_on : Text → Blocks) (next : Option Line) → Outside held column next
     → after_entry whole column (after_dash held whole go_on) next ≡ Ok (whole, next)
 after_sequence held whole column go_on None o = refl
-after_sequence held whole column go_on (Some l) (inl less) = let e : nat_lt l.0 column ≡ true = grind (arith, nat_tests) in when_true (nat_lt l.0 column) (Ok (whole, Some l)) _ e
+after_sequence held whole column go_on (Some l) (inl less) = let e : nat_lt l.0 column ≡ true = grind (arith, nat_tests) in when_true
+    (nat_lt l.0 column) (Ok (whole, Some l)) _ e
 after_sequence held whole column go_on (Some l) (inr h) =
     let at = h.1 in
     let e : nat_lt l.0 column ≡ false = grind (arith, nat_tests) in
@@ -159,7 +174,8 @@ dashes_back : (depth : ℕ) (block : ℕ → Production) (node : Node) → Block
     → dashes node depth held column n found (s ++ after) ≡ Ok (Seq (found ++ xs), next)
 dashes_back depth block node back starts held column zero found xs s after next j l o less = absurd (omega arith)
 dashes_back depth block node back starts held column (suc n) found xs s after next (last {x = x} h) l o less =
-    one_item depth block node back starts held column n found x (s ++ after) after next (whole_cut s after h) l (outside_apart false held column next (λ e. absurd cc) o)
+    one_item depth block node back starts held column n found x (s ++ after) after next (whole_cut s after h) l
+    (outside_apart false held column next (λ e. absurd cc) o)
     ∙ after_sequence held (Seq (found ++ x ∷ [])) column _ next o
 dashes_back depth block node back starts held column (suc n) found xs s after next (more {x = x} {xs = ys} first rest h j e) l o less =
     let I : Production = IsInline depth false in
@@ -190,7 +206,12 @@ line_text : (depth column : ℕ) (x : Yaml) (t after : Text) (next : Option Line
     → LineText depth column x t next
 line_text depth column x t after next c l =
     let a = alone_back depth x t after next (record { part = c.part; whole = c.whole; holds = c.holds.0 }) l in
-    record { reads = a.reads; begun = a.begun; no_key = ap has_key c.whole ∙ (inline_text depth column x c.part after c.holds.0 l.ends c.holds.1).no_key }
+    record {
+      reads = a.reads;
+      begun = a.begun;
+      no_key = ap has_key c.whole
+          ∙ (inline_text depth column x c.part after c.holds.0 l.ends c.holds.1).no_key;
+    }
 
 line_start : (depth column : ℕ) (x : Yaml) (t after : Text) → Cuts (IsLineNode depth column x) t after → ends_node after ≡ true → IsStart column t
 line_start depth column x t after c e =
@@ -208,34 +229,40 @@ unfolding IsBlock
 block_starts zero column x t after c e = line_start zero column x t after c e
 block_starts (suc depth) column x t after c e = let P : Text → Type 0 = λ y. IsStart column y in subst P (sym c.whole) (go c.part c.holds)
   where
-    go : (s : Text) → IsLineNode (suc depth) column x s ⊎ IsBlockCollection (IsInline depth false) (IsBlock depth) column x s → IsStart column (s ++ after)
+    go : (s : Text) → IsLineNode (suc depth) column x s ⊎ IsBlockCollection (IsInline depth false) (IsBlock depth) column x s
+        → IsStart column (s ++ after)
     go s (inl h) = line_start (suc depth) column x (s ++ after) after (whole_cut s after h) e
     go s (inr h) = collection_start (IsInline depth false) (IsBlock depth) column x s after h e
 
 -- a block node by its first bytes
 one_by : (column depth : ℕ) (x : Yaml) (t : Text) (next : Option Line) (seq map : Blocks) → LineText depth column x t next
     → unless (left_out t) t (cond (is_dash t) seq (cond (has_key t) map (alone depth t))) ≡ Ok (x, next)
-one_by column depth x t next seq map k = admit (left_out t) t _ k.begun.out ∙ when_false (is_dash t) seq _ k.begun.dash ∙ when_false (has_key t) map (alone depth t) k.no_key ∙ k.reads
+one_by column depth x t next seq map k = admit (left_out t) t _ k.begun.out ∙ when_false (is_dash t) seq _ k.begun.dash
+    ∙ when_false (has_key t) map (alone depth t) k.no_key ∙ k.reads
 
 not_held : (held dash : Bool) → dash ≡ false → (held ≡ true → dash ≡ true) → held ≡ false
 not_held true dash e f = absurd (differ (f refl) e)
 not_held false dash e f = refl
 
 collection_back : (depth : ℕ) → BlockBack (IsBlock depth) (block depth) → (held : Bool) (column : ℕ) (x : Yaml) (s after : Text) (next : Option Line)
-    → IsBlockCollection (IsInline depth false) (IsBlock depth) column x s → Led after next → Outside held column next → (held ≡ true → is_dash (s ++ after) ≡ true)
+    → IsBlockCollection (IsInline depth false) (IsBlock depth) column x s → Led after next → Outside held column next
+    → (held ≡ true → is_dash (s ++ after) ≡ true)
     → block (suc depth) held (column, s ++ after) ≡ Ok (x, next)
 unfolding block
 collection_back depth back held column x s after next (sequence xs same j) l o f =
     let t = s ++ after in
     let text = items_text (IsInline depth false) (IsBlock depth) column xs s after j (node_gap after l.ends) in
     admit (left_out t) t _ text.out ∙ when_true (is_dash t) (dashes (block depth) depth held column (suc (length t)) [] t) _ text.dash
-    ∙ dashes_back depth (IsBlock depth) (block depth) back (block_starts depth) held column (suc (length t)) [] xs s after next j l o (omega arith) ∙ ap (λ (y : Yaml). Ok (y, next)) (sym same)
+    ∙ dashes_back depth (IsBlock depth) (block depth) back (block_starts depth) held column (suc (length t)) [] xs s after next j l o (omega arith)
+    ∙ ap (λ (y : Yaml). Ok (y, next)) (sym same)
 collection_back depth back held column x s after next (mapping ps same d j) l o f =
     let t = s ++ after in
     let text = entries_text (IsInline depth false) (IsBlock depth) column ps s after j (node_gap after l.ends) in
     let P : Bool → Type 0 = λ c. Outside c column next in
-    admit (left_out t) t _ text.out ∙ when_false (is_dash t) _ _ text.dash ∙ when_true (has_key t) (entries (block depth) depth column (suc (length t)) [] t) _ text.key
-    ∙ entries_back depth (IsBlock depth) (block depth) back (block_starts depth) column (suc (length t)) [] ps s after next j l (subst P (not_held held (is_dash t) text.dash f) o) d (omega arith)
+    admit (left_out t) t _ text.out ∙ when_false (is_dash t) _ _ text.dash
+    ∙ when_true (has_key t) (entries (block depth) depth column (suc (length t)) [] t) _ text.key
+    ∙ entries_back depth (IsBlock depth) (block depth) back (block_starts depth) column (suc (length t)) [] ps s after next j l
+    (subst P (not_held held (is_dash t) text.dash f) o) d (omega arith)
     ∙ ap (λ (y : Yaml). Ok (y, next)) (sym same)
 
 pub block_back : (depth : ℕ) → BlockBack (IsBlock depth) (block depth)
@@ -243,9 +270,11 @@ unfolding block IsBlock
 block_back zero held column x t after next c l o f = one_by column zero x t next _ _ (line_text zero column x t after next c l)
 block_back (suc depth) held column x t after next c l o f = go (block_back depth) c.part c.whole c.holds
   where
-    go : BlockBack (IsBlock depth) (block depth) → (s : Text) → t ≡ s ++ after → IsLineNode (suc depth) column x s ⊎ IsBlockCollection (IsInline depth false) (IsBlock depth) column x s
+    go : BlockBack (IsBlock depth) (block depth) → (s : Text) → t ≡ s ++ after
+        → IsLineNode (suc depth) column x s ⊎ IsBlockCollection (IsInline depth false) (IsBlock depth) column x s
         → block (suc depth) held (column, t) ≡ Ok (x, next)
-    go back s e (inl h) = one_by column (suc depth) x t next _ _ (line_text (suc depth) column x t after next (record { part = s; whole = e; holds = h }) l)
+    go back s e (inl h) = one_by column (suc depth) x t next _ _
+        (line_text (suc depth) column x t after next (record { part = s; whole = e; holds = h }) l)
     go back s e (inr h) =
         ap (λ (y : Text). block (suc depth) held (column, y)) e
         ∙ collection_back depth back held column x s after next h l o (λ k. ap is_dash (sym e) ∙ f k)

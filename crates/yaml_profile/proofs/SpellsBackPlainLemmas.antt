@@ -32,8 +32,10 @@ pub plain_begun : (flow : Bool) (t : Text) → begins_plain flow t ≡ true → 
 plain_begun flow [] e = absurd cc
 plain_begun flow (b ∷ t) e =
     let kind = b == 45 || b == 63 || b == 58 in
-    let black : (is_gap (b ∷ t) || is_indicator b) ≡ false = not_true (is_gap (b ∷ t) || is_indicator b) (first_of_both (not (is_gap (b ∷ t) || is_indicator b)) (not (kind && closes flow t)) e) in
-    let unclosed : (kind && closes flow t) ≡ false = not_true (kind && closes flow t) (second_of_both (not (is_gap (b ∷ t) || is_indicator b)) (not (kind && closes flow t)) e) in
+    let black : (is_gap (b ∷ t) || is_indicator b) ≡ false = not_true (is_gap (b ∷ t) || is_indicator b)
+    (first_of_both (not (is_gap (b ∷ t) || is_indicator b)) (not (kind && closes flow t)) e) in
+    let unclosed : (kind && closes flow t) ≡ false = not_true (kind && closes flow t)
+    (second_of_both (not (is_gap (b ∷ t) || is_indicator b)) (not (kind && closes flow t)) e) in
     let i = right_false (is_gap (b ∷ t)) (is_indicator b) black in
     let dash : (b == 45 && is_gap t) ≡ false = false_and (b == 45) (is_gap t)
     (λ f g. differ (both_true kind (closes flow t) (left_true (b == 45 || b == 63) _ (left_true (b == 45) _ f)) (gap_closes flow t g)) unclosed) in
@@ -59,7 +61,8 @@ plain_begun flow (b ∷ t) e =
 no_quotes : (flow : Bool) (t : Text) → begins_plain flow t ≡ true → (sees 39 t ≡ false) × (sees 34 t ≡ false)
 no_quotes flow [] e = absurd cc
 no_quotes flow (b ∷ t) e =
-    let i = right_false (is_gap (b ∷ t)) (is_indicator b) (not_true (is_gap (b ∷ t) || is_indicator b) (first_of_both (not (is_gap (b ∷ t) || is_indicator b)) _ e)) in
+    let i = right_false (is_gap (b ∷ t)) (is_indicator b)
+    (not_true (is_gap (b ∷ t) || is_indicator b) (first_of_both (not (is_gap (b ∷ t) || is_indicator b)) _ e)) in
     (other_byte b 39 refl i, other_byte b 34 refl i)
 
 -- ---- what follows does not matter
@@ -71,10 +74,12 @@ line_keep : (b : ℕ) (r s : Text) → (b == 13) ≡ false → ends_line (b ∷ 
 line_keep b r s n e = either (b == 10) (b == 13 && sees 10 r) (λ f. left_true (b == 10) _ f) (λ f. absurd (differ (first_of_both (b == 13) _ f) n)) e
 
 gap_keep : (b : ℕ) (r s : Text) → (b == 13) ≡ false → is_gap (b ∷ r) ≡ true → is_gap (b ∷ s) ≡ true
-gap_keep b r s n e = either (is_white b) (ends_line (b ∷ r)) (λ f. left_true (is_white b) _ f) (λ f. right_true (is_white b) _ (line_keep b r s n f)) e
+gap_keep b r s n e = either (is_white b) (ends_line (b ∷ r)) (λ f. left_true (is_white b) _ f)
+    (λ f. right_true (is_white b) _ (line_keep b r s n f)) e
 
 closes_keep : (flow : Bool) (b : ℕ) (r s : Text) → (b == 13) ≡ false → closes flow (b ∷ r) ≡ true → closes flow (b ∷ s) ≡ true
-closes_keep flow b r s n e = either (is_gap (b ∷ r)) (flow && is_flow_mark b) (λ f. left_true (is_gap (b ∷ s)) _ (gap_keep b r s n f)) (λ f. right_true (is_gap (b ∷ s)) _ f) e
+closes_keep flow b r s n e = either (is_gap (b ∷ r)) (flow && is_flow_mark b) (λ f. left_true (is_gap (b ∷ s)) _ (gap_keep b r s n f))
+    (λ f. right_true (is_gap (b ∷ s)) _ f) e
 
 ends_keep : (flow white : Bool) (b : ℕ) (r s : Text) → (b == 13) ≡ false → (closes flow r ≡ true → closes flow s ≡ true)
     → ends_plain flow white (b ∷ r) ≡ true → ends_plain flow white (b ∷ s) ≡ true
@@ -85,7 +90,8 @@ ends_keep flow white b r s n c e =
     (λ f. left_true (ends_line (b ∷ s) || (b == 58 && closes flow s) || mark) hash (either (ends_line (b ∷ r) || (b == 58 && closes flow r)) mark
     (λ g. left_true (ends_line (b ∷ s) || (b == 58 && closes flow s)) mark (either (ends_line (b ∷ r)) (b == 58 && closes flow r)
     (λ h. left_true (ends_line (b ∷ s)) _ (line_keep b r s n h))
-    (λ h. right_true (ends_line (b ∷ s)) _ (both_true (b == 58) _ (first_of_both (b == 58) (closes flow r) h) (c (second_of_both (b == 58) (closes flow r) h)))) g))
+    (λ h. right_true (ends_line (b ∷ s)) _ (both_true (b == 58) _ (first_of_both (b == 58) (closes flow r) h)
+    (c (second_of_both (b == 58) (closes flow r) h)))) g))
     (λ g. right_true (ends_line (b ∷ s) || (b == 58 && closes flow s)) mark g) f))
     (λ f. right_true (ends_line (b ∷ s) || (b == 58 && closes flow s) || mark) hash f) e
 
@@ -133,7 +139,8 @@ len_over flow white at len [] t goes same ended =
     let P : Bool → Type 0 = λ w. plain_len flow w at len t ≡ len in subst P (sym goes) (ended at len) ∙ same goes ∙ omega arith
 len_over flow white at len (b ∷ s) t goes same ended =
     when_false (ends_plain flow white (b ∷ (s ++ t))) len _ goes.0
-    ∙ go (is_white b) refl (λ g. len_over flow true (at + 1) len s t g (λ e. absurd cc) ended) (λ g. len_over flow false (at + 1) (at + 1) s t g (λ _. refl) ended)
+    ∙ go (is_white b) refl (λ g. len_over flow true (at + 1) len s t g (λ e. absurd cc) ended)
+    (λ g. len_over flow false (at + 1) (at + 1) s t g (λ _. refl) ended)
   where
     go : (c : Bool) → is_white b ≡ c → (GoesOn flow true s t → plain_len flow true (at + 1) len (s ++ t) ≡ at + 1 + length s)
         → (GoesOn flow false s t → plain_len flow false (at + 1) (at + 1) (s ++ t) ≡ at + 1 + length s)
@@ -152,7 +159,8 @@ plain_reads flow b v t begins goes allowed ended =
     let back : drop (suc (length v)) whole ≡ t = drop-append_seam (b ∷ v) t in
     let pick : Text → Text → Result (Text × Text) Refusal = λ x y. cond (has_forbidden x) (refuse Syntax whole) (Ok (x, y)) in
     when_true (begins_plain flow whole) (plain_of whole (plain_len flow false 1 1 (v ++ t))) _ begins ∙ ap (plain_of whole) len
-    ∙ ap (λ (x : Text). pick x (drop (suc (length v)) whole)) front ∙ ap (λ (y : Text). pick (b ∷ v) y) back ∙ when_false (has_forbidden (b ∷ v)) (refuse Syntax whole) (Ok (b ∷ v, t)) allowed
+    ∙ ap (λ (x : Text). pick x (drop (suc (length v)) whole)) front ∙ ap (λ (y : Text). pick (b ∷ v) y) back
+    ∙ when_false (has_forbidden (b ∷ v)) (refuse Syntax whole) (Ok (b ∷ v, t)) allowed
 
 pub plain_back : (flow : Bool) (v next t : Text) → IsPlain flow v next → IsFull v → (closes flow t ≡ true → closes flow next ≡ true) → Ended flow t
     → ScalarBack flow v (v ++ t) t
@@ -160,10 +168,12 @@ unfolding scalar has_forbidden
 plain_back flow [] next t h full c ended = absurd (full refl)
 plain_back flow (b ∷ v) next t h full c ended =
     let n = right_false (is_forbidden b) (has_forbidden v) h.allowed in
-    let begins = begins_back flow b (v ++ t) (v ++ next) (no_return b (left_false (is_forbidden b) _ h.allowed)) (closes_kept flow v t next n c) h.begins in
+    let begins = begins_back flow b (v ++ t) (v ++ next) (no_return b (left_false (is_forbidden b) _ h.allowed))
+    (closes_kept flow v t next n c) h.begins in
     let quotes = no_quotes flow (b ∷ (v ++ t)) begins in
     record {
-      reads = when_false (b == 39) _ _ quotes.0 ∙ when_false (b == 34) _ _ quotes.1 ∙ plain_reads flow b v t begins (goes_back flow false v t next n c h.goes_on) h.allowed ended;
+      reads = when_false (b == 39) _ _ quotes.0 ∙ when_false (b == 34) _ _ quotes.1
+          ∙ plain_reads flow b v t begins (goes_back flow false v t next n c h.goes_on) h.allowed ended;
       begins = plain_begun flow (b ∷ (v ++ t)) begins;
     }
 
@@ -179,7 +189,8 @@ scalar_back flow v t rest c quote ended = let P : Text → Type 0 = λ x. Scalar
     go : (s : Text) → IsScalar flow v s → ScalarBack flow v (s ++ rest) rest
     go s (inl h) = quoted_scalar flow v s rest h quote
     go s (inr h) =
-        let P : Text → Type 0 = λ x. ScalarBack flow v (x ++ rest) rest in subst P (sym h.0) (plain_back flow v [] rest h.1 (plain_full flow v [] h.1 refl) (λ _. refl) ended)
+        let P : Text → Type 0 = λ x. ScalarBack flow v (x ++ rest) rest in subst P (sym h.0)
+        (plain_back flow v [] rest h.1 (plain_full flow v [] h.1 refl) (λ _. refl) ended)
 
 -- ---- keys
 
@@ -248,17 +259,20 @@ colon_closes flow (b ∷ w) t h e = left_true (is_gap (b ∷ (w ++ 58 ∷ []))) 
 no_colon_begins : (flow : Bool) (w : Text) → IsWhite w → begins_plain flow (w ++ 58 ∷ []) ≡ false
 no_colon_begins flow [] h = refl
 no_colon_begins flow (b ∷ w) h =
-    ap (λ (c : Bool). not c && not ((b == 45 || b == 63 || b == 58) && closes flow (w ++ 58 ∷ []))) (left_true (is_gap (b ∷ (w ++ 58 ∷ []))) _ (left_true (is_white b) _ h.0))
+    ap (λ (c : Bool). not c && not ((b == 45 || b == 63 || b == 58) && closes flow (w ++ 58 ∷ [])))
+    (left_true (is_gap (b ∷ (w ++ 58 ∷ []))) _ (left_true (is_white b) _ h.0))
 
 plain_key_back : (flow : Bool) (name white after : Text) → IsWhite white → IsPlain flow name (white ++ 58 ∷ []) → closes flow after ≡ true
     → KeyBack flow name ((name ++ (white ++ 58 ∷ [])) ++ after) after
 plain_key_back flow name white after w h c =
     let rest = white ++ 58 ∷ after in
-    let same : name ++ rest ≡ (name ++ (white ++ 58 ∷ [])) ++ after = ap (λ (x : Text). name ++ x) (sym (append_assoc white (58 ∷ []) after)) ∙ sym (append_assoc name (white ++ 58 ∷ []) after) in
+    let same : name ++ rest ≡ (name ++ (white ++ 58 ∷ [])) ++ after = ap (λ (x : Text). name ++ x) (sym (append_assoc white (58 ∷ []) after))
+    ∙ sym (append_assoc name (white ++ 58 ∷ []) after) in
     let P : Text → Type 0 = λ x. ScalarBack flow name x rest in
     record {
       rest = rest;
-      back = subst P same (plain_back flow name (white ++ 58 ∷ []) rest h (plain_full flow name (white ++ 58 ∷ []) h (no_colon_begins flow white w)) (colon_closes flow white after w)
+      back = subst P same (plain_back flow name (white ++ 58 ∷ []) rest h (plain_full flow name (white ++ 58 ∷ []) h (no_colon_begins flow white w))
+          (colon_closes flow white after w)
           (λ at len. white_ended flow false at len white (58 ∷ after) w (λ d. colon_ends flow d after c)));
       colon = colon_white white after w;
     }
@@ -267,8 +281,10 @@ quoted_key_back : (flow : Bool) (name key after : Text) → (IsQuoted name and_t
 quoted_key_back flow name key after h =
     let k = h.is_second in
     let rest = k.first ++ 58 ∷ after in
-    let same : h.first ++ rest ≡ key ++ after = ap (λ (x : Text). h.first ++ x) (sym (append_assoc k.first (58 ∷ []) after)) ∙ sym (append_assoc h.first (k.first ++ 58 ∷ []) after)
-    ∙ ap (λ (x : Text). x ++ after) (ap (λ (x : Text). h.first ++ x) (ap (λ (x : Text). k.first ++ x) (sym k.is_second) ∙ sym k.parts) ∙ sym h.parts) in
+    let same : h.first ++ rest ≡ key ++ after = ap (λ (x : Text). h.first ++ x) (sym (append_assoc k.first (58 ∷ []) after))
+    ∙ sym (append_assoc h.first (k.first ++ 58 ∷ []) after)
+    ∙ ap (λ (x : Text). x ++ after) (ap (λ (x : Text). h.first ++ x) (ap (λ (x : Text). k.first ++ x) (sym k.is_second) ∙ sym k.parts)
+    ∙ sym h.parts) in
     let P : Text → Type 0 = λ x. ScalarBack flow name x rest in
     record {
       rest = rest;
@@ -291,12 +307,16 @@ node_len flow white at len [] e = refl
 node_len flow white at len (b ∷ t) e = go (is_white b) refl e (node_len flow true (at + 1) len t)
   where
     go : (c : Bool) → is_white b ≡ c → (ends_line (cond c (past_white t) (b ∷ t)) || ((white || c) && sees 35 (cond c (past_white t) (b ∷ t)))) ≡ true
-        → ((ends_line (past_white t) || sees 35 (past_white t)) ≡ true → plain_len flow true (at + 1) len t ≡ len) → plain_len flow white at len (b ∷ t) ≡ len
-    go true w k next = len_white flow white at len b t w ∙ next (either (ends_line (past_white t)) ((white || true) && sees 35 (past_white t)) (λ f. left_true (ends_line (past_white t)) _ f)
+        → ((ends_line (past_white t) || sees 35 (past_white t)) ≡ true → plain_len flow true (at + 1) len t ≡ len)
+        → plain_len flow white at len (b ∷ t) ≡ len
+    go true w k next = len_white flow white at len b t w
+        ∙ next (either (ends_line (past_white t)) ((white || true) && sees 35 (past_white t)) (λ f. left_true (ends_line (past_white t)) _ f)
         (λ f. right_true (ends_line (past_white t)) _ (second_of_both (white || true) _ f)) k)
     go false w k next = len_end flow white at len (b ∷ t) (either (ends_line (b ∷ t)) ((white || false) && b == 35)
-        (λ f. left_true (ends_line (b ∷ t) || (b == 58 && closes flow t) || (flow && is_flow_mark b)) _ (left_true (ends_line (b ∷ t) || (b == 58 && closes flow t)) _ (left_true (ends_line (b ∷ t)) _ f)))
-        (λ f. right_true (ends_line (b ∷ t) || (b == 58 && closes flow t) || (flow && is_flow_mark b)) _ (both_true white _ (or_false white (first_of_both (white || false) _ f)) (second_of_both (white || false) _ f))) k)
+        (λ f. left_true (ends_line (b ∷ t) || (b == 58 && closes flow t) || (flow && is_flow_mark b)) _
+        (left_true (ends_line (b ∷ t) || (b == 58 && closes flow t)) _ (left_true (ends_line (b ∷ t)) _ f)))
+        (λ f. right_true (ends_line (b ∷ t) || (b == 58 && closes flow t) || (flow && is_flow_mark b)) _
+        (both_true white _ (or_false white (first_of_both (white || false) _ f)) (second_of_both (white || false) _ f))) k)
       where
         or_false : (c : Bool) → (c || false) ≡ true → c ≡ true
         or_false true g = refl
@@ -322,12 +342,14 @@ mark_ends : (white : Bool) (t : Text) → IsMark t → ends_plain true white t �
 mark_ends white t m =
     let b = m.byte in
     ap (ends_plain true white) m.parts
-    ∙ left_true (ends_line (b ∷ m.rest) || (b == 58 && closes true m.rest) || is_flow_mark b) _ (right_true (ends_line (b ∷ m.rest) || (b == 58 && closes true m.rest)) _ m.is_mark)
+    ∙ left_true (ends_line (b ∷ m.rest) || (b == 58 && closes true m.rest) || is_flow_mark b) _
+    (right_true (ends_line (b ∷ m.rest) || (b == 58 && closes true m.rest)) _ m.is_mark)
 
 line_ends : (flow white : Bool) (t : Text) → ends_line t ≡ true → ends_plain flow white t ≡ true
 line_ends flow white [] e = refl
 line_ends flow white (b ∷ t) e =
-    left_true (ends_line (b ∷ t) || (b == 58 && closes flow t) || (flow && is_flow_mark b)) _ (left_true (ends_line (b ∷ t) || (b == 58 && closes flow t)) _ (left_true (ends_line (b ∷ t)) _ e))
+    left_true (ends_line (b ∷ t) || (b == 58 && closes flow t) || (flow && is_flow_mark b)) _
+    (left_true (ends_line (b ∷ t) || (b == 58 && closes flow t)) _ (left_true (ends_line (b ∷ t)) _ e))
 
 -- a plain scalar that has come here after white goes no further
 abbrev WhiteEnded : ℕ → Text → Type 0
@@ -353,7 +375,8 @@ hash_ends (b ∷ s) t h =
 piece_run : (len : ℕ) (s t : Text) → IsGapOrComment s → WhiteEnded len t → WhiteEnded len (s ++ t)
 piece_run len s t (inl h) e at = gap_run true at len s t h e
 piece_run len s t (inr h) e at =
-    ap (plain_len true true at len) (ap (λ (x : Text). x ++ t) h.parts ∙ append_assoc h.first h.second t) ∙ len_end true true at len (h.first ++ (h.second ++ t)) (hash_ends h.first (h.second ++ t) h.is_first)
+    ap (plain_len true true at len) (ap (λ (x : Text). x ++ t) h.parts ∙ append_assoc h.first h.second t)
+    ∙ len_end true true at len (h.first ++ (h.second ++ t)) (hash_ends h.first (h.second ++ t) h.is_first)
 
 many_run : (len : ℕ) (s t : Text) → Many IsGapOrComment s → WhiteEnded len t → WhiteEnded len (s ++ t)
 many_run len s t none e = e
@@ -365,7 +388,8 @@ space_run : (at len : ℕ) (s t : Text) → IsSpace s → IsMark t → plain_len
 space_run at len s t (inl e) m = ap (λ (x : Text). plain_len true false at len (x ++ t)) e ∙ len_end true false at len t (mark_ends false t m)
 space_run at len s t (inr h) m =
     ap (plain_len true false at len) (ap (λ (x : Text). x ++ t) h.parts ∙ append_assoc h.first h.second t)
-    ∙ gap_run false at len h.first (h.second ++ t) h.is_first (many_run len h.second t h.is_second (λ n. len_end true true n len t (mark_ends true t m)))
+    ∙ gap_run false at len h.first (h.second ++ t) h.is_first
+    (many_run len h.second t h.is_second (λ n. len_end true true n len t (mark_ends true t m)))
 
 -- space and a mark follow
 pub record IsClosed (t : Text) : Type 0 where
@@ -377,7 +401,8 @@ pub closed_ended : (t : Text) → IsClosed t → Ended true t
 closed_ended t c at len = ap (plain_len true false at len) c.space.whole ∙ space_run at len c.space.part c.mark c.space.holds c.is_mark
 
 mark_quote : (t : Text) → IsMark t → sees 39 t ≡ false
-mark_quote t m = ap (sees 39) m.parts ∙ refuted (m.byte == 39) (not (is_flow_mark m.byte)) (λ e. ap (λ (c : ℕ). not (is_flow_mark c)) (eqb-true m.byte 39 e)) (ap not m.is_mark)
+mark_quote t m = ap (sees 39) m.parts ∙ refuted (m.byte == 39) (not (is_flow_mark m.byte))
+    (λ e. ap (λ (c : ℕ). not (is_flow_mark c)) (eqb-true m.byte 39 e)) (ap not m.is_mark)
 
 space_quote : (s t : Text) → IsSpace s → IsMark t → sees 39 (s ++ t) ≡ false
 space_quote s t (inl e) m = ap (λ (x : Text). sees 39 (x ++ t)) e ∙ mark_quote t m
@@ -389,7 +414,11 @@ pub closed_quote : (t : Text) → IsClosed t → sees 39 t ≡ false
 closed_quote t c = ap (sees 39) c.space.whole ∙ space_quote c.space.part c.mark c.space.holds c.is_mark
 
 mark_stop : (t : Text) → IsMark t → IsStop t
-mark_stop t m = record { no_gap = ap is_gap m.parts ∙ black_mark m.byte m.rest m.is_mark; no_hash = ap (sees 35) m.parts ∙ refuted (m.byte == 35) (not (is_flow_mark m.byte)) (λ e. ap (λ (c : ℕ). not (is_flow_mark c)) (eqb-true m.byte 35 e)) (ap not m.is_mark) }
+mark_stop t m = record {
+  no_gap = ap is_gap m.parts ∙ black_mark m.byte m.rest m.is_mark;
+  no_hash = ap (sees 35) m.parts
+      ∙ refuted (m.byte == 35) (not (is_flow_mark m.byte)) (λ e. ap (λ (c : ℕ). not (is_flow_mark c)) (eqb-true m.byte 35 e)) (ap not m.is_mark);
+}
   where
     not_byte : (b k : ℕ) → is_flow_mark k ≡ false → is_flow_mark b ≡ true → (b == k) ≡ false
     not_byte b k n e = refuted (b == k) (not (is_flow_mark b)) (λ f. ap not (ap is_flow_mark (eqb-true b k f) ∙ n)) (ap not e)

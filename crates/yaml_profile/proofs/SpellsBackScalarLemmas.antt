@@ -48,7 +48,8 @@ single_back v (b ∷ w) t h e = go (b == 39) refl (single_back (v ++ 39 ∷ []) 
     tail : Text
     tail = flat_map in_single w ++ 39 ∷ t
 
-    go : (c : Bool) → (b == 39) ≡ c → single (v ++ 39 ∷ []) false tail ≡ found ((v ++ 39 ∷ []) ++ w) t → single (v ++ b ∷ []) false tail ≡ found ((v ++ b ∷ []) ++ w) t
+    go : (c : Bool) → (b == 39) ≡ c → single (v ++ 39 ∷ []) false tail ≡ found ((v ++ 39 ∷ []) ++ w) t
+        → single (v ++ b ∷ []) false tail ≡ found ((v ++ b ∷ []) ++ w) t
         → single v false ((cond c (39 ∷ 39 ∷ []) (b ∷ []) ++ flat_map in_single w) ++ 39 ∷ t) ≡ found (v ++ b ∷ w) t
     go true f p q = p ∙ ap (λ (x : List ℕ). found x t) (append_assoc v (39 ∷ []) w ∙ ap (λ (c : ℕ). v ++ c ∷ w) (sym (eqb-true b 39 f)))
     go false f p q =
@@ -78,7 +79,11 @@ hex_back whole [] [] number t e valid = when_true (is_scalar_value number) (Ok (
 hex_back whole [] (v ∷ values) number t e valid = absurd cc
 hex_back whole (d ∷ digits) [] number t e valid = absurd cc
 hex_back whole (d ∷ digits) (v ∷ values) number t e valid =
-    let go : Option ℕ → Result (ℕ × Text) Refusal = λ o. elim o [ Some k ↦ hex whole (length digits) (16 * number + k) (digits ++ t) | None ↦ refuse Syntax whole ] in
+    let go : Option ℕ → Result (ℕ × Text) Refusal = λ o. elim o [
+      | Some k ↦ hex whole (length digits) (16 * number + k)
+          (digits ++ t)
+      | None ↦ refuse Syntax whole
+    ] in
     ap go (ap first_of e) ∙ hex_back whole digits values (16 * number + v) t (ap (drop 1) e) valid
 
 hex_alone : (c : ℕ) → (hex_digits c ≡ None) ⊎ (short_escape c ≡ None)
@@ -128,8 +133,10 @@ double_back (suc n) v w s t (byte {v = x} {t = u} b e h) less =
     let rest = u ++ 34 ∷ t in
     let quote = left_false (b == 34) (b == 92) (left_false (b == 34 || b == 92) _ e) in
     let slash = right_false (b == 34) (b == 92) (left_false (b == 34 || b == 92) _ e) in
-    let line : ends_line (b ∷ rest) ≡ false = false_or (b == 10) _ (right_false (b == 34 || b == 92) _ e) (ap (λ (c : Bool). b == 13 && c) (double_head x u t h) ∙ no (b == 13)) in
-    when_false (b == 34) (found v rest) _ quote ∙ when_false (b == 92) _ _ slash ∙ when_false (ends_line (b ∷ rest)) _ (double n (v ++ b ∷ []) rest) line
+    let line : ends_line (b ∷ rest) ≡ false = false_or (b == 10) _ (right_false (b == 34 || b == 92) _ e)
+    (ap (λ (c : Bool). b == 13 && c) (double_head x u t h) ∙ no (b == 13)) in
+    when_false (b == 34) (found v rest) _ quote ∙ when_false (b == 92) _ _ slash
+    ∙ when_false (ends_line (b ∷ rest)) _ (double n (v ++ b ∷ []) rest) line
     ∙ double_back n (v ++ b ∷ []) x u t h (omega arith) ∙ ap (λ (y : List ℕ). found y t) (append_assoc v (b ∷ []) x)
   where
     no : (c : Bool) → (c && false) ≡ false
@@ -140,9 +147,12 @@ double_back (suc n) v w s t (escaped code first x u e h f g) less =
     let rest = k.rest ++ (u ++ 34 ∷ t) in
     let whole : s ++ 34 ∷ t ≡ 92 ∷ rest =
     ap (λ (y : Text). y ++ 34 ∷ t) (g ∙ ap (λ (y : Text). y ++ u) k.begins) ∙ ap (λ (y : Text). 92 ∷ y) (append_assoc k.rest u (34 ∷ t)) in
-    let shorter : length u < n = (let l : length s ≡ suc (length k.rest) + length u = ap length (g ∙ ap (λ (y : Text). y ++ u) k.begins) ∙ length-append (92 ∷ k.rest) u in omega arith) in
-    ap (double (suc n) v) whole ∙ when_ok (escape (92 ∷ rest) rest) (code, u ++ 34 ∷ t) (λ c. double n (v ++ encode_utf8 c.0) c.1) (k.reads (92 ∷ rest) (u ++ 34 ∷ t))
-    ∙ double_back n (v ++ encode_utf8 code) x u t h shorter ∙ ap (λ (y : List ℕ). found y t) (append_assoc v (encode_utf8 code) x ∙ ap (λ (y : List ℕ). v ++ y) (sym f))
+    let shorter : length u < n = (let l : length s ≡ suc (length k.rest) + length u = ap length (g ∙ ap (λ (y : Text). y ++ u) k.begins)
+    ∙ length-append (92 ∷ k.rest) u in omega arith) in
+    ap (double (suc n) v) whole ∙ when_ok (escape (92 ∷ rest) rest) (code, u ++ 34 ∷ t) (λ c. double n (v ++ encode_utf8 c.0) c.1)
+    (k.reads (92 ∷ rest) (u ++ 34 ∷ t))
+    ∙ double_back n (v ++ encode_utf8 code) x u t h shorter
+    ∙ ap (λ (y : List ℕ). found y t) (append_assoc v (encode_utf8 code) x ∙ ap (λ (y : List ℕ). v ++ y) (sym f))
 
 -- ---- quoted
 
@@ -185,7 +195,8 @@ single_scalar : (flow : Bool) (v s t : Text) → IsSingle v s → sees 39 t ≡ 
 unfolding scalar
 single_scalar flow v s t h e =
     let rest = flat_map in_single v ++ 39 ∷ t in
-    let same : s ++ t ≡ 39 ∷ rest = ap (λ (x : Text). x ++ t) h.quoted ∙ ap (λ (x : Text). 39 ∷ x) (append_assoc (flat_map in_single v) (39 ∷ []) t) in
+    let same : s ++ t ≡ 39 ∷ rest = ap (λ (x : Text). x ++ t) h.quoted
+    ∙ ap (λ (x : Text). 39 ∷ x) (append_assoc (flat_map in_single v) (39 ∷ []) t) in
     record {
       reads = ap (scalar flow) same ∙ single_back [] v t h.one_line e;
       begins = let P : Text → Type 0 = λ x. IsScalarBegun x in subst P (sym same) (single_begun rest);
@@ -196,7 +207,8 @@ unfolding scalar
 double_scalar flow v s t h =
     let k = h.is_second in
     let rest = k.first ++ 34 ∷ t in
-    let inside : s ≡ 34 ∷ (k.first ++ 34 ∷ []) = h.parts ∙ ap (λ (x : Text). x ++ h.second) h.is_first ∙ ap (λ (x : Text). 34 ∷ x) (k.parts ∙ ap (λ (x : Text). k.first ++ x) k.is_second) in
+    let inside : s ≡ 34 ∷ (k.first ++ 34 ∷ []) = h.parts ∙ ap (λ (x : Text). x ++ h.second) h.is_first
+    ∙ ap (λ (x : Text). 34 ∷ x) (k.parts ∙ ap (λ (x : Text). k.first ++ x) k.is_second) in
     let same : s ++ t ≡ 34 ∷ rest = ap (λ (x : Text). x ++ t) inside ∙ ap (λ (x : Text). 34 ∷ x) (append_assoc k.first (34 ∷ []) t) in
     let fits : length k.first < suc (length rest) = (let l = length-append k.first (34 ∷ t) in omega arith) in
     record {

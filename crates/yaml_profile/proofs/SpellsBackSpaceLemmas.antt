@@ -75,23 +75,27 @@ unfolding past_space
 stays [] s = refl
 stays (b ∷ t) s =
     let go : Option Between → Text = λ o. elim o [ None ↦ b ∷ t | Some next ↦ past_space next t ] in
-    ap go (when_false (is_gap (b ∷ t)) (Some AfterWhite) (cond (b == 35) (Some InComment) None) s.no_gap ∙ when_false (b == 35) (Some InComment) None s.no_hash)
+    ap go (when_false (is_gap (b ∷ t)) (Some AfterWhite) (cond (b == 35) (Some InComment) None) s.no_gap
+    ∙ when_false (b == 35) (Some InComment) None s.no_hash)
 
 byte_stays : (t : Text) → is_gap t ≡ false → past_space AfterByte t ≡ t
 unfolding past_space
 byte_stays [] e = refl
-byte_stays (b ∷ t) e = let go : Option Between → Text = λ o. elim o [ None ↦ b ∷ t | Some next ↦ past_space next t ] in ap go (when_false (is_gap (b ∷ t)) (Some AfterWhite) None e)
+byte_stays (b ∷ t) e = let go : Option Between → Text = λ o. elim o [ None ↦ b ∷ t | Some next ↦ past_space next t ] in ap go
+    (when_false (is_gap (b ∷ t)) (Some AfterWhite) None e)
 
 space_white : (w t : Text) → IsWhite w → past_space AfterWhite (w ++ t) ≡ past_space AfterWhite t
 unfolding past_space
 space_white [] t h = refl
 space_white (b ∷ w) t h =
     let go : Option Between → Text = λ o. elim o [ None ↦ b ∷ (w ++ t) | Some next ↦ past_space next (w ++ t) ] in
-    ap go (when_true (is_gap (b ∷ (w ++ t))) (Some AfterWhite) (cond (b == 35) (Some InComment) None) (left_true (is_white b) _ h.0)) ∙ space_white w t h.1
+    ap go (when_true (is_gap (b ∷ (w ++ t))) (Some AfterWhite) (cond (b == 35) (Some InComment) None) (left_true (is_white b) _ h.0))
+    ∙ space_white w t h.1
 
 space_byte : (b : ℕ) (t : Text) → is_gap (b ∷ t) ≡ true → past_space AfterByte (b ∷ t) ≡ past_space AfterWhite t
 unfolding past_space
-space_byte b t e = let go : Option Between → Text = λ o. elim o [ None ↦ b ∷ t | Some next ↦ past_space next t ] in ap go (when_true (is_gap (b ∷ t)) (Some AfterWhite) None e)
+space_byte b t e = let go : Option Between → Text = λ o. elim o [ None ↦ b ∷ t | Some next ↦ past_space next t ] in ap go
+    (when_true (is_gap (b ∷ t)) (Some AfterWhite) None e)
 
 space_break : (s t : Text) → IsBreak s → past_space AfterWhite (s ++ t) ≡ past_space AfterWhite t
 unfolding past_space
@@ -143,7 +147,8 @@ byte_gap s t (inr h) = byte_break s t h
 piece_over : (s t : Text) → IsGapOrComment s → past_space AfterWhite (s ++ t) ≡ past_space AfterWhite t
 piece_over s t (inl h) = gap_over s t h
 piece_over s t (inr h) =
-    ap (past_space AfterWhite) (ap (λ (x : Text). x ++ t) h.parts ∙ append_assoc h.first h.second t) ∙ space_comment h.first (h.second ++ t) h.is_first ∙ comment_break h.second t h.is_second
+    ap (past_space AfterWhite) (ap (λ (x : Text). x ++ t) h.parts ∙ append_assoc h.first h.second t)
+    ∙ space_comment h.first (h.second ++ t) h.is_first ∙ comment_break h.second t h.is_second
 
 many_over : (s t : Text) → Many IsGapOrComment s → past_space AfterWhite (s ++ t) ≡ past_space AfterWhite t
 many_over s t none = refl
@@ -153,7 +158,8 @@ many_over s t (more first rest p h e) =
 space_over : (s t : Text) → IsSpace s → IsStop t → spaced (s ++ t) ≡ t
 space_over s t (inl e) stop = ap (λ (x : Text). spaced (x ++ t)) e ∙ byte_stays t stop.no_gap
 space_over s t (inr h) stop =
-    ap spaced (ap (λ (x : Text). x ++ t) h.parts ∙ append_assoc h.first h.second t) ∙ byte_gap h.first (h.second ++ t) h.is_first ∙ many_over h.second t h.is_second ∙ stays t stop
+    ap spaced (ap (λ (x : Text). x ++ t) h.parts ∙ append_assoc h.first h.second t) ∙ byte_gap h.first (h.second ++ t) h.is_first
+    ∙ many_over h.second t h.is_second ∙ stays t stop
 
 pub space_passed : (t u : Text) → Cuts IsSpace t u → IsStop u → spaced t ≡ u
 space_passed t u c stop = ap spaced c.whole ∙ space_over c.part u c.holds stop
@@ -197,7 +203,8 @@ some_plain (b ∷ s) h = h
 
 blank_plain : (s : Text) → IsBlankLine s → NoBreak s
 blank_plain s (inl h) = white_plain s h
-blank_plain s (inr h) = let P : Text → Type 0 = λ x. NoBreak x in subst P (sym h.parts) (both_plain h.first h.second (white_plain h.first h.is_first) (comment_plain h.second h.is_second))
+blank_plain s (inr h) = let P : Text → Type 0 = λ x. NoBreak x in subst P (sym h.parts)
+    (both_plain h.first h.second (white_plain h.first h.is_first) (comment_plain h.second h.is_second))
 
 rest_blank : (s : Text) → IsLineRest s → IsBlankLine s
 rest_blank s (inl h) = inl h
@@ -228,7 +235,8 @@ blank_seen : (s t : Text) → IsBlankLine s → LineEnd t → is_blank (s ++ t) 
 blank_seen s t (inl h) e = ap (λ (x : Text). ends_line x || sees 35 x) (white_over s t h ∙ no_white t e.1) ∙ left_true (ends_line t) _ e.0
 blank_seen s t (inr h) e =
     let seen = comment_seen h.second t h.is_second in
-    let same = ap past_white (ap (λ (x : Text). x ++ t) h.parts ∙ append_assoc h.first h.second t) ∙ white_over h.first (h.second ++ t) h.is_first ∙ no_white (h.second ++ t) seen.1 in
+    let same = ap past_white (ap (λ (x : Text). x ++ t) h.parts ∙ append_assoc h.first h.second t) ∙ white_over h.first (h.second ++ t) h.is_first
+    ∙ no_white (h.second ++ t) seen.1 in
     ap (λ (x : Text). ends_line x || sees 35 x) same ∙ right_true (ends_line (h.second ++ t)) _ seen.0
 
 white_begins : (s t : Text) → IsSomeWhite s → begins_white (s ++ t) ≡ true
@@ -243,7 +251,8 @@ rest_seen s t (inr h) e =
     let parts = ap (λ (x : Text). x ++ t) h.parts ∙ append_assoc h.first h.second t in
     let same = ap past_white parts ∙ white_over h.first (h.second ++ t) (some_plain h.first h.is_first) ∙ no_white (h.second ++ t) seen.1 in
     let white = ap begins_white parts ∙ white_begins h.first (h.second ++ t) h.is_first in
-    ap (λ (x : Text). ends_line x || (begins_white (s ++ t) && sees 35 x)) same ∙ right_true (ends_line (h.second ++ t)) _ (both_true (begins_white (s ++ t)) _ white seen.0)
+    ap (λ (x : Text). ends_line x || (begins_white (s ++ t) && sees 35 x)) same
+    ∙ right_true (ends_line (h.second ++ t)) _ (both_true (begins_white (s ++ t)) _ white seen.0)
 
 hash_no_space : (b : ℕ) (s : Text) → (b == 32) ≡ true → IsComment (b ∷ s) → ⊥
 hash_no_space b s e h = differ e (ap (λ (c : ℕ). c == 32) h.0)
@@ -267,7 +276,8 @@ blank_over k (b ∷ s) t o h e over here = go (b == 32) refl (λ l. blank_over (
     go : (c : Bool) → (b == 32) ≡ c → (IsBlankLine s → line_from (Some (k + 1)) (s ++ t) ≡ o) → line_from (Some k) (b ∷ (s ++ t)) ≡ o
     go true f next = when_true (b == 32) (line_from (Some (k + 1)) (s ++ t)) _ f ∙ next (blank_less b s f h)
     go false f next =
-        when_false (b == 32) (line_from (Some (k + 1)) (s ++ t)) _ f ∙ when_true (is_blank (b ∷ (s ++ t))) (line_from (passed b) (s ++ t)) _ (blank_seen (b ∷ s) t h e)
+        when_false (b == 32) (line_from (Some (k + 1)) (s ++ t)) _ f
+        ∙ when_true (is_blank (b ∷ (s ++ t))) (line_from (passed b) (s ++ t)) _ (blank_seen (b ∷ s) t h e)
         ∙ ap (λ (c : Bool). line_from (cond c (Some 0) None) (s ++ t)) (blank_plain (b ∷ s) h).0 ∙ none_over s t (blank_plain (b ∷ s) h).1 ∙ over
 
 any_break : (k : ℕ) (s t : Text) → IsBreak s → line_from (Some k) (s ++ t) ≡ line_from (Some 0) t
@@ -283,7 +293,8 @@ any_end k = refl
 line_over : (s t : Text) → (IsBlankLine and_then IsBreak) s → line_from (Some 0) (s ++ t) ≡ line_from (Some 0) t
 line_over s t h =
     ap (line_from (Some 0)) (ap (λ (x : Text). x ++ t) h.parts ∙ append_assoc h.first h.second t)
-    ∙ blank_over 0 h.first (h.second ++ t) (line_from (Some 0) t) h.is_first (break_end h.second t h.is_second) (none_break h.second t h.is_second) (λ n. any_break n h.second t h.is_second)
+    ∙ blank_over 0 h.first (h.second ++ t) (line_from (Some 0) t) h.is_first (break_end h.second t h.is_second) (none_break h.second t h.is_second)
+    (λ n. any_break n h.second t h.is_second)
 
 passed_over : (s t : Text) → IsPassed s → line_from (Some 0) (s ++ t) ≡ line_from (Some 0) t
 passed_over s t none = refl
@@ -302,8 +313,10 @@ stop_line k [] s = absurd (differ refl s.no_gap)
 stop_line k (b ∷ t) s =
     let white = left_false (is_white b) (ends_line (b ∷ t)) s.no_gap in
     let line = right_false (is_white b) (ends_line (b ∷ t)) s.no_gap in
-    let blank : is_blank (b ∷ t) ≡ false = ap (λ (x : Text). ends_line x || sees 35 x) (no_white (b ∷ t) white) ∙ false_or (ends_line (b ∷ t)) _ line s.no_hash in
-    when_false (b == 32) (line_from (Some (k + 1)) t) _ (left_false (b == 32) _ white) ∙ when_false (is_blank (b ∷ t)) (line_from (passed b) t) _ blank
+    let blank : is_blank (b ∷ t) ≡ false = ap (λ (x : Text). ends_line x || sees 35 x) (no_white (b ∷ t) white)
+    ∙ false_or (ends_line (b ∷ t)) _ line s.no_hash in
+    when_false (b == 32) (line_from (Some (k + 1)) t) _ (left_false (b == 32) _ white)
+    ∙ when_false (is_blank (b ∷ t)) (line_from (passed b) t) _ blank
     ∙ when_false (b == 9) _ (Ok (Some (k, b ∷ t))) (right_false (b == 32) _ white)
 
 spaces_over : (c k : ℕ) (t : Text) → IsStop t → line_from (Some k) (replicate c 32 ++ t) ≡ Ok (Some (k + c, t))
@@ -314,7 +327,8 @@ spaces_over (suc c) k t s = spaces_over c (k + 1) t s ∙ ap (λ (n : ℕ). Ok (
 pub indent_over : (c : ℕ) (t u : Text) → Cuts (IsIndent c) t u → IsStop u → line_from (Some 0) t ≡ Ok (Some (c, u))
 indent_over c t u i s =
     let h = i.holds in
-    ap (line_from (Some 0)) (i.whole ∙ ap (λ (x : Text). x ++ u) h.parts ∙ append_assoc h.first h.second u) ∙ passed_over h.first (h.second ++ u) h.is_first
+    ap (line_from (Some 0)) (i.whole ∙ ap (λ (x : Text). x ++ u) h.parts ∙ append_assoc h.first h.second u)
+    ∙ passed_over h.first (h.second ++ u) h.is_first
     ∙ ap (λ (x : Text). line_from (Some 0) (x ++ u)) h.is_second ∙ spaces_over c 0 u s ∙ ap (λ (n : ℕ). Ok (Some (n, u))) (omega arith)
 
 pub blank_end : (t : Text) → IsBlankEnd t → line_from (Some 0) t ≡ Ok None
@@ -331,19 +345,23 @@ rest_line : (s t : Text) → (IsLineRest and_then IsBreak) s → (ends_node (s +
 rest_line s t h =
     let same = ap (λ (x : Text). x ++ t) h.parts ∙ append_assoc h.first h.second t in (
       ap ends_node same ∙ rest_seen h.first (h.second ++ t) h.is_first (break_end h.second t h.is_second),
-      ap (line_from None) same ∙ none_over h.first (h.second ++ t) (blank_plain h.first (rest_blank h.first h.is_first)) ∙ none_break h.second t h.is_second,
+      ap (line_from None) same ∙ none_over h.first (h.second ++ t) (blank_plain h.first (rest_blank h.first h.is_first))
+          ∙ none_break h.second t h.is_second,
     )
 
 to_line_led : (c : ℕ) (s u : Text) → ToLine c s → IsStop u → is_marker (c, u) ≡ false → Led (s ++ u) (Some (c, u))
 unfolding next_line
 to_line_led c s u h stop m =
     let k = h.is_second in
-    let same = ap (λ (x : Text). x ++ u) (h.parts ∙ ap (λ (x : Text). h.first ++ x) k.parts ∙ sym (append_assoc h.first k.first k.second)) ∙ append_assoc (h.first ++ k.first) k.second u in
-    let over = rest_line (h.first ++ k.first) (k.second ++ u) (record { first = h.first; second = k.first; parts = refl; is_first = h.is_first; is_second = k.is_first }) in
+    let same = ap (λ (x : Text). x ++ u) (h.parts ∙ ap (λ (x : Text). h.first ++ x) k.parts ∙ sym (append_assoc h.first k.first k.second))
+    ∙ append_assoc (h.first ++ k.first) k.second u in
+    let over = rest_line (h.first ++ k.first) (k.second ++ u)
+    (record { first = h.first; second = k.first; parts = refl; is_first = h.is_first; is_second = k.is_first }) in
     let indent : Cuts (IsIndent c) (k.second ++ u) u = record { part = k.second; whole = refl; holds = k.is_second } in
     record {
       ends = ap ends_node same ∙ over.0;
-      line = when_ok (line_from None (s ++ u)) (Some (c, u)) without_marker (ap (line_from None) same ∙ over.1 ∙ indent_over c (k.second ++ u) u indent stop)
+      line = when_ok (line_from None (s ++ u)) (Some (c, u)) without_marker
+          (ap (line_from None) same ∙ over.1 ∙ indent_over c (k.second ++ u) u indent stop)
           ∙ when_false (is_marker (c, u)) _ (Ok (Some (c, u))) m;
     }
 
@@ -359,5 +377,10 @@ end_led t (inl h) = record {
 end_led t (inr h) =
     let k = h.is_second in
     let same = h.parts ∙ ap (λ (x : Text). h.first ++ x) k.parts ∙ sym (append_assoc h.first k.first k.second) in
-    let over = rest_line (h.first ++ k.first) k.second (record { first = h.first; second = k.first; parts = refl; is_first = h.is_first; is_second = k.is_first }) in
-    record { ends = ap ends_node same ∙ over.0; line = when_ok (line_from None t) None without_marker (ap (line_from None) same ∙ over.1 ∙ end_over k.second k.is_second) }
+    let over = rest_line (h.first ++ k.first) k.second
+    (record { first = h.first; second = k.first; parts = refl; is_first = h.is_first; is_second = k.is_first }) in
+    record {
+      ends = ap ends_node same ∙ over.0;
+      line = when_ok (line_from None t) None without_marker
+          (ap (line_from None) same ∙ over.1 ∙ end_over k.second k.is_second);
+    }

@@ -28,7 +28,8 @@ unfolding past_white
 node_gap [] e = refl
 node_gap (b ∷ t) e = go (is_white b) refl e
   where
-    go : (c : Bool) → is_white b ≡ c → (ends_line (cond c (past_white t) (b ∷ t)) || (c && sees 35 (cond c (past_white t) (b ∷ t)))) ≡ true → is_gap (b ∷ t) ≡ true
+    go : (c : Bool) → is_white b ≡ c → (ends_line (cond c (past_white t) (b ∷ t)) || (c && sees 35 (cond c (past_white t) (b ∷ t)))) ≡ true
+        → is_gap (b ∷ t) ≡ true
     go true w k = left_true (is_white b) _ w
     go false w k = right_true (is_white b) _ (either (ends_line (b ∷ t)) false (λ f. f) (λ f. absurd cc) k)
 
@@ -58,7 +59,8 @@ rest_begins (b ∷ r) s (inr h) g =
 pub line_begins : (column : ℕ) (s next : Text) → ToLine column s → is_gap (s ++ next) ≡ true
 line_begins column s next h =
     let k = h.is_second in
-    let behind : is_gap (h.second ++ next) ≡ true = ap is_gap (ap (λ (x : Text). x ++ next) k.parts ∙ append_assoc k.first k.second next) ∙ break_begins k.first (k.second ++ next) k.is_first in
+    let behind : is_gap (h.second ++ next) ≡ true = ap is_gap (ap (λ (x : Text). x ++ next) k.parts ∙ append_assoc k.first k.second next)
+    ∙ break_begins k.first (k.second ++ next) k.is_first in
     ap is_gap (ap (λ (x : Text). x ++ next) h.parts ∙ append_assoc h.first h.second next) ∙ rest_begins h.first (h.second ++ next) h.is_first behind
 
 pub beside_gap : (inline : Production) (lower : ℕ → Production) (tree : Yaml) (t : Text) → IsBeside inline lower tree t → is_gap t ≡ true
@@ -68,7 +70,8 @@ beside_gap inline lower tree t (later_line column h) = ap is_gap h.parts ∙ lin
 
 three_more : (b : ℕ) (s t : Text) → is_gap t ≡ true → is_three b s ≡ true → is_three b (s ++ t) ≡ true
 three_more b [] t g e = absurd cc
-three_more b (a ∷ []) t g e = absurd (none (second_of_both (a == b) false (first_of_both ((a == b) && false) false (first_of_both (((a == b) && false) && false) true e))))
+three_more b (a ∷ []) t g e = absurd (none (second_of_both (a == b) false
+    (first_of_both ((a == b) && false) false (first_of_both (((a == b) && false) && false) true e))))
   where
     none : false ≡ true → ⊥
     none e = cc
@@ -77,13 +80,15 @@ three_more b (a ∷ c ∷ []) t g e = absurd (none (second_of_both ((a == b) && 
     none : false ≡ true → ⊥
     none e = cc
 three_more b (a ∷ c ∷ d ∷ s) t g e =
-    let front = ((a == b) && (c == b)) && (d == b) in both_true front _ (first_of_both front (is_gap s) e) (gap_more s t (second_of_both front (is_gap s) e) g)
+    let front = ((a == b) && (c == b)) && (d == b) in both_true front _ (first_of_both front (is_gap s) e)
+    (gap_more s t (second_of_both front (is_gap s) e) g)
 
 marker_more : (column : ℕ) (s t : Text) → is_gap t ≡ true → is_marker (column, s) ≡ true → is_marker (column, s ++ t) ≡ true
 marker_more column s t g e =
     let either_three = is_three 45 s || is_three 46 s in
     both_true (column == 0) _ (first_of_both (column == 0) either_three e)
-    (either (is_three 45 s) (is_three 46 s) (λ f. left_true (is_three 45 (s ++ t)) _ (three_more 45 s t g f)) (λ f. right_true (is_three 45 (s ++ t)) _ (three_more 46 s t g f))
+    (either (is_three 45 s) (is_three 46 s) (λ f. left_true (is_three 45 (s ++ t)) _ (three_more 45 s t g f))
+    (λ f. right_true (is_three 45 (s ++ t)) _ (three_more 46 s t g f))
     (second_of_both (column == 0) either_three e))
 
 -- what is cut from a line that is no marker is none, where a gap follows
@@ -141,8 +146,15 @@ BesideRead inline block of_map column t x = NodeEnds (IsBeside inline (Lower of_
 
 lower_node : (inline : Production) (block : ℕ → Production) (of_map : Bool) (column : ℕ) (t : Text) (l : Line) (x : Yaml × Option Line)
     → Cuts (ToLine l.0) t l.1
-    → ((s : Text) → Dashed block l x.0 s → Lower of_map block column l.0 x.0 s) → NodeEnds (Dashed block l) l.1 x → BesideRead inline block of_map column t x
-lower_node inline block of_map column t l x line f h = record { after = h.after; node = widen (λ s k. later_line l.0 k) (chain line (widen f h.node)); leads = h.leads; gap = h.gap }
+    → ((s : Text) → Dashed block l x.0 s → Lower of_map block column l.0 x.0 s) → NodeEnds (Dashed block l) l.1 x
+    → BesideRead inline block of_map column t x
+lower_node inline block of_map column t l x line f h = record {
+  after = h.after;
+  node = widen (λ s k. later_line l.0 k)
+      (chain line (widen f h.node));
+  leads = h.leads;
+  gap = h.gap;
+}
 
 below_read : (inline : Production) (block : ℕ → Production) (node : Node) → BlockReads block node
     → (of_map : Bool) (column : ℕ) (t : Text) (next : Option Line) → is_gap t ≡ true → Leads t next
@@ -152,26 +164,35 @@ below_read inline block node reads of_map column t (Some l) g h =
     let B : Yaml × Option Line → Type 0 = BesideRead inline block of_map column t in
     choose B (nat_lt column l.0) _ _
     (λ e. mapped (NodeEnds (Dashed block l) l.1) B (node false l)
-    (λ x k. let less : column < l.0 = grind (arith, nat_tests) in lower_node inline block of_map column t l x h.0 (λ s d. deeper of_map block column l.0 x.0 s less d.0) k) (reads false l h.1))
+    (λ x k. let less : column < l.0 = grind (arith, nat_tests) in lower_node inline block of_map column t l x h.0
+    (λ s d. deeper of_map block column l.0 x.0 s less d.0) k) (reads false l h.1))
     (λ _. choose B (of_map && (l.0 == column && is_dash l.1)) _ _
     (λ e.
     let both = second_of_both of_map (l.0 == column && is_dash l.1) e in
     let same = eqb-true l.0 column (first_of_both (l.0 == column) (is_dash l.1) both) in
     let dash = second_of_both (l.0 == column) (is_dash l.1) both in
     mapped (NodeEnds (Dashed block l) l.1) B (node true l)
-    (λ x k. lower_node inline block of_map column t l x h.0 (λ s d. level of_map block column l.0 x.0 s (first_of_both of_map _ e) same (d.1 dash) d.0) k) (reads true l h.1))
+    (λ x k. lower_node inline block of_map column t l x h.0
+    (λ s d. level of_map block column l.0 x.0 s (first_of_both of_map _ e) same (d.1 dash) d.0) k) (reads true l h.1))
     (λ _. record { after = t; node = no_part t (nothing refl refl); leads = h; gap = g }))
 
 same_node : (inline : Production) (block : ℕ → Production) (of_map : Bool) (column : ℕ) (t : Text) (x : Yaml × Option Line) → is_gap t ≡ true
     → ends_node t ≡ false → NodeEnds inline (past_white t) x
     → BesideRead inline block of_map column t x
-same_node inline block of_map column t x g e h = record { after = h.after; node = widen (λ s k. same_line k) (chain (some_white t g e) h.node); leads = h.leads; gap = h.gap }
+same_node inline block of_map column t x g e h = record {
+  after = h.after;
+  node = widen (λ s k. same_line k)
+      (chain (some_white t g e) h.node);
+  leads = h.leads;
+  gap = h.gap;
+}
 
 later_read : (inline : Production) (block : ℕ → Production) (node : Node) → BlockReads block node → (of_map : Bool) (column : ℕ) (t : Text)
     → is_gap t ≡ true → ends_node t ≡ true
     → IfOk (next_line t >>= λ next. below node of_map column next) (BesideRead inline block of_map column t)
 later_read inline block node reads of_map column t g e =
-    bind (Leads t) (BesideRead inline block of_map column t) (next_line t) (λ next. below node of_map column next) (next_read t e) (λ next h. below_read inline block node reads of_map column t next g h)
+    bind (Leads t) (BesideRead inline block of_map column t) (next_line t) (λ next. below node of_map column next) (next_read t e)
+    (λ next h. below_read inline block node reads of_map column t next g h)
 
 map_value_read : (depth : ℕ) (block : ℕ → Production) (node : Node) → BlockReads block node → (column : ℕ) (t : Text) → is_gap t ≡ true
     → IfOk (map_value node depth column t) (BesideRead (IsInline depth false) block true column t)
@@ -179,7 +200,8 @@ unfolding map_value
 map_value_read depth block node reads column t g =
     let B : Yaml × Option Line → Type 0 = BesideRead (IsInline depth false) block true column t in
     choose B (ends_node t) _ _ (later_read (IsInline depth false) block node reads true column t g)
-    (λ e. mapped (NodeEnds (IsInline depth false) (past_white t)) B (alone depth (past_white t)) (λ x h. same_node (IsInline depth false) block true column t x g e h) (alone_read depth (past_white t)))
+    (λ e. mapped (NodeEnds (IsInline depth false) (past_white t)) B (alone depth (past_white t))
+    (λ x h. same_node (IsInline depth false) block true column t x g e h) (alone_read depth (past_white t)))
 
 item_read : (depth : ℕ) (block : ℕ → Production) (node : Node) → BlockReads block node → (column : ℕ) (t : Text) → is_gap t ≡ true
     → IfOk (item node depth column t) (BesideRead (IsInline depth false) block false column t)
@@ -188,7 +210,8 @@ item_read depth block node reads column t g =
     let B : Yaml × Option Line → Type 0 = BesideRead (IsInline depth false) block false column t in
     choose B (ends_node t) _ _ (later_read (IsInline depth false) block node reads false column t g)
     (λ e. allowed B (left_out (past_white t)) (past_white t) _ (choose B (is_dash (past_white t) || has_key (past_white t)) _ _ (λ _. tt)
-    (λ _. mapped (NodeEnds (IsInline depth false) (past_white t)) B (alone depth (past_white t)) (λ x h. same_node (IsInline depth false) block false column t x g e h) (alone_read depth (past_white t)))))
+    (λ _. mapped (NodeEnds (IsInline depth false) (past_white t)) B (alone depth (past_white t))
+    (λ x h. same_node (IsInline depth false) block false column t x g e h) (alone_read depth (past_white t)))))
 
 -- ---- mappings
 
@@ -203,7 +226,11 @@ entry_key_read t =
     (λ key h.
     let behind = past_white key.1 in
     choose (EntryKey t) (sees 58 behind && is_gap (drop 1 behind)) _ _
-    (λ e. (key_cut false t key (first_of_both (sees 58 behind) (is_gap (drop 1 behind)) e) h, second_of_both (sees 58 behind) (is_gap (drop 1 behind)) e)) (λ _. tt)))
+    (λ e. (
+      key_cut false t key (first_of_both (sees 58 behind) (is_gap (drop 1 behind)) e) h,
+      second_of_both (sees 58 behind)
+          (is_gap (drop 1 behind)) e,
+    )) (λ _. tt)))
 
 abbrev NewEntry : List Pair → Text → List ℕ × Text → Type 0
 NewEntry found t x = EntryKey t x × (has_name x.0 found ≡ false)
@@ -273,13 +300,23 @@ entries_read depth block node reads column (suc n) found t m =
     let I : Production = IsInline depth false in
     let E : Yaml × Option Line → Type 0 = EntriesRest I block column found t in
     bind (NewEntry found t) E (new_entry found t) _ (new_entry_read found t)
-    (λ key k. bind (BesideRead I block true column key.1) E (map_value node depth column key.1) _ (map_value_read depth block node reads column key.1 k.0.1)
+    (λ key k. bind (BesideRead I block true column key.1) E (map_value node depth column key.1) _
+    (map_value_read depth block node reads column key.1 k.0.1)
     (λ value h.
     let p = pair key.0 value.0 in
     let now = found ++ p ∷ [] in
     let entry = entry_cut I block column t key value m k.0 h in
     after_entry_read E h.after (Map now) column (λ l. entries node depth column n now l.1) value.1 h.leads
-    (record { rest = p ∷ []; after = h.after; same = refl; joined = widen (λ s j. last j) entry; leads = h.leads; gap = h.gap; distinct = distinct_last found key.0 value.0 k.1 })
+    (record {
+      rest = p ∷ [];
+      after = h.after;
+      same = refl;
+      joined = widen
+          (λ s j. last j) entry;
+      leads = h.leads;
+      gap = h.gap;
+      distinct = distinct_last found key.0 value.0 k.1;
+    })
     (λ l leads same.
     let line = to_column h.after l column leads same in
     mapped (EntriesRest I block column now l.1) E (entries node depth column n now l.1)
@@ -316,12 +353,23 @@ dashes_read depth block node reads held column (suc n) found t d =
     let I : Production = IsInline depth false in
     let E : Yaml × Option Line → Type 0 = ItemsRest I block column found t in
     let begin = dash_seen t d in
-    bind (BesideRead I block false column (drop 1 t)) E (item node depth column (drop 1 t)) _ (item_read depth block node reads column (drop 1 t) begin.1)
+    bind (BesideRead I block false column (drop 1 t)) E (item node depth column (drop 1 t)) _
+    (item_read depth block node reads column (drop 1 t) begin.1)
     (λ value h.
     let now = found ++ value.0 ∷ [] in
     let one : Cuts (IsItem I block column value.0) t h.after = chain begin.0 h.node in
-    let ended : (next : Option Line) → Leads h.after next → E (Seq now, next) = λ next leads. record { rest = value.0 ∷ []; after = h.after; same = refl; joined = widen (λ s j. last j) one; leads = leads; gap = h.gap } in
-    after_entry_read E h.after (Seq now) column (after_dash held (Seq now) (dashes node depth held column n now)) value.1 h.leads (ended value.1 h.leads)
+    let ended : (next : Option Line) → Leads h.after next
+    → E (Seq now, next) = λ next leads. record {
+      rest = value.0 ∷ [];
+      after = h.after;
+      same = refl;
+      joined = widen
+          (λ s j. last j) one;
+      leads = leads;
+      gap = h.gap;
+    } in
+    after_entry_read E h.after (Seq now) column (after_dash held (Seq now) (dashes node depth held column n now)) value.1 h.leads
+    (ended value.1 h.leads)
     (λ l leads same. choose E (is_dash l.1) _ _
     (λ e. mapped (ItemsRest I block column now l.1) E (dashes node depth held column n now l.1)
     (λ x r. record {
@@ -363,7 +411,8 @@ unfolding block IsBlock
 block_read zero held l m =
     let N : Yaml × Option Line → Type 0 = NodeEnds (Dashed (IsBlock zero) l) l.1 in
     allowed N (left_out l.1) l.1 _ (choose N (is_dash l.1) _ _ (λ _. tt)
-    (λ d. choose N (has_key l.1) _ _ (λ _. tt) (λ _. mapped (NodeEnds (IsInline zero false) l.1) N (alone zero l.1) (λ x h. line_node zero l x m d h) (alone_read zero l.1))))
+    (λ d. choose N (has_key l.1) _ _ (λ _. tt) (λ _. mapped (NodeEnds (IsInline zero false) l.1) N (alone zero l.1) (λ x h. line_node zero l x m d h)
+    (alone_read zero l.1))))
 block_read (suc depth) held l m =
     let I : Production = IsInline depth false in
     let B : ℕ → Production = IsBlock depth in
@@ -372,11 +421,24 @@ block_read (suc depth) held l m =
     let turns = suc (length l.1) in
     allowed N (left_out l.1) l.1 _ (choose N (is_dash l.1) _ _
     (λ d. mapped (ItemsRest I B l.0 [] l.1) N (dashes (block depth) depth held l.0 turns [] l.1)
-    (λ x r. record { after = r.after; node = widen (λ s j. (inr (sequence r.rest r.same j), λ _. items_dash I B l.0 r.rest s j)) r.joined; leads = r.leads; gap = r.gap })
+    (λ x r. record {
+      after = r.after;
+      node = widen
+          (λ s j. (inr (sequence r.rest r.same j), λ _. items_dash I B l.0 r.rest s j)) r.joined;
+      leads = r.leads;
+      gap = r.gap;
+    })
     (dashes_read depth B (block depth) reads held l.0 turns [] l.1 d))
     (λ d. choose N (has_key l.1) _ _
     (λ _. mapped (EntriesRest I B l.0 [] l.1) N (entries (block depth) depth l.0 turns [] l.1)
-    (λ x r. record { after = r.after; node = widen (λ s j. (inr (mapping r.rest r.same (r.distinct tt) j), λ e. absurd (differ e d))) r.joined; leads = r.leads; gap = r.gap })
+    (λ x r. record {
+      after = r.after;
+      node = widen
+          (λ s j. (inr (mapping r.rest r.same (r.distinct tt) j), λ e. absurd (differ e d))) r.joined;
+      leads = r.leads;
+      gap = r.gap;
+    })
     (entries_read depth B (block depth) reads l.0 turns [] l.1 m))
     (λ _. mapped (NodeEnds (IsInline (suc depth) false) l.1) N (alone (suc depth) l.1)
-    (λ x h. ends_widen (λ tree s. IsLineNode (suc depth) l.0 tree s × (is_dash l.1 ≡ true → is_dash s ≡ true)) (Dashed (IsBlock (suc depth)) l) l.1 x (λ s k. (inl k.0, k.1)) (line_node (suc depth) l x m d h)) (alone_read (suc depth) l.1))))
+    (λ x h. ends_widen (λ tree s. IsLineNode (suc depth) l.0 tree s × (is_dash l.1 ≡ true → is_dash s ≡ true)) (Dashed (IsBlock (suc depth)) l) l.1 x
+    (λ s k. (inl k.0, k.1)) (line_node (suc depth) l x m d h)) (alone_read (suc depth) l.1))))

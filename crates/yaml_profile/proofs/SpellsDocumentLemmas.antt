@@ -35,7 +35,8 @@ Three s = s ≡ 45 ∷ 45 ∷ 45 ∷ []
 
 three_cut : (t : Text) → is_three 45 t ≡ true → Cuts Three t (drop 3 t)
 three_cut [] e = absurd cc
-three_cut (a ∷ []) e = absurd (none (second_of_both (a == 45) false (first_of_both ((a == 45) && false) false (first_of_both (((a == 45) && false) && false) true e))))
+three_cut (a ∷ []) e = absurd (none (second_of_both (a == 45) false
+    (first_of_both ((a == 45) && false) false (first_of_both (((a == 45) && false) && false) true e))))
   where
     none : false ≡ true → ⊥
     none f = cc
@@ -59,11 +60,13 @@ passed_cut : (t : Text) (l : Line) → l.0 ≡ 0 → Cuts (IsIndent l.0) t l.1 �
 passed_cut t l e c = let P : ℕ → Type 0 = λ k. Cuts (IsIndent k) t l.1 in widen only (subst P e c)
   where
     only : (s : Text) → IsIndent 0 s → IsPassed s
-    only s h = let P : Text → Type 0 = λ x. IsPassed x in subst P (sym (h.parts ∙ ap (λ (x : Text). h.first ++ x) h.is_second ∙ sym (append_nil h.first))) h.is_first
+    only s h = let P : Text → Type 0 = λ x. IsPassed x in subst P
+        (sym (h.parts ∙ ap (λ (x : Text). h.first ++ x) h.is_second ∙ sym (append_nil h.first))) h.is_first
 
 after_marker : (t : Text) (l : Line) (next : Option Line) → Cuts IsPassed t l.1 → Cuts Three l.1 (drop 3 l.1) → Leads (drop 3 l.1) next
     → Started t next
-after_marker t l None p c h = let Q : Text → Type 0 = λ s. ToEnd s in inr (all_of (IsMarked ToEnd) t (chain p (chain c (to_end {P = Q} (drop 3 l.1) h))))
+after_marker t l None p c h = let Q : Text → Type 0 = λ s. ToEnd s in inr
+    (all_of (IsMarked ToEnd) t (chain p (chain c (to_end {P = Q} (drop 3 l.1) h))))
 after_marker t l (Some m) p c h = (widen (λ s k. inr k) (chain p (chain c h.0)), h.1)
 
 begun_read : (t : Text) (next : Option Line) → Begun t next → IfOk (begun next) (Started t)
@@ -72,7 +75,8 @@ begun_read t (Some l) h =
     choose (Started t) (l.0 == 0 && is_three 45 l.1) _ _
     (λ e. choose (Started t) (ends_node (drop 3 l.1)) _ _
     (λ f. mapped (Leads (drop 3 l.1)) (Started t) (next_line (drop 3 l.1))
-    (λ next k. after_marker t l next (passed_cut t l (eqb-true l.0 0 (first_of_both (l.0 == 0) (is_three 45 l.1) e)) h) (three_cut l.1 (second_of_both (l.0 == 0) (is_three 45 l.1) e)) k)
+    (λ next k. after_marker t l next (passed_cut t l (eqb-true l.0 0 (first_of_both (l.0 == 0) (is_three 45 l.1) e)) h)
+    (three_cut l.1 (second_of_both (l.0 == 0) (is_three 45 l.1) e)) k)
     (next_read (drop 3 l.1) f)) (λ _. tt))
     (λ _. choose (Started t) (is_marker l) _ _ (λ _. tt) (λ f. (widen (λ s k. inl k) h, f)))
 

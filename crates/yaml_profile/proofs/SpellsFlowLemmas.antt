@@ -75,7 +75,12 @@ record ItemsRest (P : Production) (found : List Yaml) (t : Text) (x : Yaml × Te
   listed : Cuts (IsListed 93 P rest) t x.1
 
 items_none : (P : Production) (found : List Yaml) (t : Text) → sees 93 (spaced t) ≡ true → ItemsRest P found t (Seq found, drop 1 (spaced t))
-items_none P found t e = record { rest = []; same = seq_none found; listed = widen (λ s k. none k) (chain (space_cut t (seen_full 93 (spaced t) e)) (seen_byte 93 (spaced t) e)) }
+items_none P found t e = record {
+  rest = [];
+  same = seq_none found;
+  listed = widen (λ s k. none k)
+      (chain (space_cut t (seen_full 93 (spaced t) e)) (seen_byte 93 (spaced t) e));
+}
 
 items_last : (P : Production) (found : List Yaml) (t : Text) (item : Yaml × Text) → sees 93 (spaced item.1) ≡ true → NodeRead true P (spaced t) item
     → ItemsRest P found t (Seq (found ++ item.0 ∷ []), drop 1 (spaced item.1))
@@ -83,7 +88,8 @@ items_last P found t item e h = record {
   rest = item.0 ∷ [];
   same = refl;
   listed = widen (λ s k. last k)
-      (chain (space_cut t h.0) (chain (h.1 (mark_closes 93 item.1 e refl)) (chain (space_cut item.1 (seen_full 93 (spaced item.1) e)) (seen_byte 93 (spaced item.1) e))));
+      (chain (space_cut t h.0) (chain (h.1 (mark_closes 93 item.1 e refl))
+      (chain (space_cut item.1 (seen_full 93 (spaced item.1) e)) (seen_byte 93 (spaced item.1) e))));
 }
 
 items_next : (P : Production) (found : List Yaml) (t : Text) (item x : Yaml × Text) → sees 44 (spaced item.1) ≡ true → NodeRead true P (spaced t) item
@@ -92,7 +98,8 @@ items_next P found t item x e h k = record {
   rest = item.0 ∷ k.rest;
   same = k.same ∙ ap Seq (append_assoc found (item.0 ∷ []) k.rest);
   listed = listed_more item.0 k.rest t (drop 1 (spaced item.1)) x.1
-      (chain (space_cut t h.0) (chain (h.1 (mark_closes 44 item.1 e refl)) (chain (space_cut item.1 (seen_full 44 (spaced item.1) e)) (seen_byte 44 (spaced item.1) e)))) k.listed;
+      (chain (space_cut t h.0) (chain (h.1 (mark_closes 44 item.1 e refl))
+      (chain (space_cut item.1 (seen_full 44 (spaced item.1) e)) (seen_byte 44 (spaced item.1) e)))) k.listed;
 }
 
 items_read : (P : Production) (node : Reader Yaml) → NodeReads P node → (n : ℕ) (found : List Yaml) (t : Text)
@@ -101,10 +108,12 @@ unfolding items
 items_read P node reads zero found t = tt
 items_read P node reads (suc n) found t =
     choose (ItemsRest P found t) (sees 93 (spaced t)) _ _ (λ e. items_none P found t e)
-    (λ _. bind (NodeRead true P (spaced t)) (ItemsRest P found t) (node (spaced t)) (λ item. after_item (items node n) (found ++ item.0 ∷ []) (spaced item.1)) (reads (spaced t))
+    (λ _. bind (NodeRead true P (spaced t)) (ItemsRest P found t) (node (spaced t))
+    (λ item. after_item (items node n) (found ++ item.0 ∷ []) (spaced item.1)) (reads (spaced t))
     (λ item h. choose (ItemsRest P found t) (sees 93 (spaced item.1)) _ _ (λ e. items_last P found t item e h)
     (λ _. choose (ItemsRest P found t) (sees 44 (spaced item.1)) _ _
-    (λ e. mapped (ItemsRest P (found ++ item.0 ∷ []) (drop 1 (spaced item.1))) (ItemsRest P found t) (items node n (found ++ item.0 ∷ []) (drop 1 (spaced item.1)))
+    (λ e. mapped (ItemsRest P (found ++ item.0 ∷ []) (drop 1 (spaced item.1))) (ItemsRest P found t)
+    (items node n (found ++ item.0 ∷ []) (drop 1 (spaced item.1)))
     (λ x k. items_next P found t item x e h k) (items_read P node reads n (found ++ item.0 ∷ []) (drop 1 (spaced item.1)))) (λ _. tt))))
 
 -- ---- flow mappings
@@ -146,12 +155,14 @@ value_read P node reads t key h =
     (λ f c. record {
       after = after;
       is_pair = with_value P key.0 (Scalar []) t after after (key_cut true t key e h) (no_part after (inr (refl, refl), λ _. refl));
-      space = space_cut after (either (sees 44 (spaced after)) (sees 125 (spaced after)) (seen_full 44 (spaced after)) (seen_full 125 (spaced after)) f);
+      space = space_cut after (either (sees 44 (spaced after)) (sees 125 (spaced after)) (seen_full 44 (spaced after))
+          (seen_full 125 (spaced after)) f);
     })
     (λ _. mapped (NodeRead true P (spaced after)) (PairRead P key.0 t) (node (spaced after))
     (λ x k c. record {
       after = x.1;
-      is_pair = with_value P key.0 x.0 t after x.1 (key_cut true t key e h) (widen (λ s w. (inl w.0, w.1)) (spaced_value (P x.0) after x.1 k.0 (k.1 c)));
+      is_pair = with_value P key.0 x.0 t after x.1 (key_cut true t key e h)
+          (widen (λ s w. (inl w.0, w.1)) (spaced_value (P x.0) after x.1 k.0 (k.1 c)));
       space = no_part x.1 (inl refl);
     }) (reads (spaced after))))
     (λ _. tt)
@@ -168,7 +179,8 @@ distinct_none found h = let e : found ≡ found ++ [] = grind (arith, common_ste
 pub distinct_next : (found rest : List Pair) (n : List ℕ) (v : Yaml) → has_name n found ≡ false
     → (Distinct (found ++ pair n v ∷ []) → Distinct ((found ++ pair n v ∷ []) ++ rest))
     → Distinct found → Distinct (found ++ pair n v ∷ rest)
-distinct_next found rest n v new f h = let P : List Pair → Type 0 = λ l. Distinct l in subst P (append_assoc found (pair n v ∷ []) rest) (f (distinct_one n v found new h))
+distinct_next found rest n v new f h = let P : List Pair
+    → Type 0 = λ l. Distinct l in subst P (append_assoc found (pair n v ∷ []) rest) (f (distinct_one n v found new h))
 
 pub distinct_last : (found : List Pair) (n : List ℕ) (v : Yaml) → has_name n found ≡ false → Distinct found → Distinct (found ++ pair n v ∷ [])
 distinct_last found n v new h = distinct_one n v found new h
@@ -185,14 +197,20 @@ pairs_none P found t e = record {
 space_after : (c : ℕ) (t u : Text) → Cuts IsSpace t u → sees c (spaced u) ≡ true → Cuts IsSpace t (spaced u)
 space_after c t u s e =
     let w = space_cut u (seen_full c (spaced u) e) in
-    record { part = s.part ++ w.part; whole = s.whole ∙ ap (λ (x : Text). s.part ++ x) w.whole ∙ sym (append_assoc s.part w.part (spaced u)); holds = space_append s.part w.part s.holds w.holds }
+    record {
+      part = s.part ++ w.part;
+      whole = s.whole ∙ ap (λ (x : Text). s.part ++ x) w.whole
+          ∙ sym (append_assoc s.part w.part (spaced u));
+      holds = space_append s.part w.part s.holds w.holds;
+    }
 
 pair_listed : (P : Production) (c : ℕ) (t : Text) (key : List ℕ × Text) (value : Yaml × Text) → is_flow_mark c ≡ true
     → sees c (spaced value.1) ≡ true → ScalarText true (spaced t) key → PairRead P key.0 (spaced t) value
     → Cuts (IsSpace and_then IsFlowPair P (pair key.0 value.0) and_then IsSpace and_then Is c) t (drop 1 (spaced value.1))
 pair_listed P c t key value m e h k =
     let p = k (mark_closes c value.1 e m) in
-    chain (space_cut t (scalar_full true (spaced t) key h)) (chain p.is_pair (chain (space_after c p.after value.1 p.space e) (seen_byte c (spaced value.1) e)))
+    chain (space_cut t (scalar_full true (spaced t) key h))
+    (chain p.is_pair (chain (space_after c p.after value.1 p.space e) (seen_byte c (spaced value.1) e)))
 
 pairs_next : (P : Production) (found : List Pair) (t : Text) (key : List ℕ × Text) (value x : Yaml × Text) → sees 44 (spaced value.1) ≡ true
     → NewKey true found (spaced t) key
@@ -210,12 +228,21 @@ unfolding pairs
 pairs_read P node reads zero found t = tt
 pairs_read P node reads (suc n) found t =
     choose (PairsRest P found t) (sees 125 (spaced t)) _ _ (λ e. pairs_none P found t e)
-    (λ _. bind (NewKey true found (spaced t)) (PairsRest P found t) (new_key found (spaced t)) (λ key. value_of node key.1 >>= λ value. after_pair (pairs node n) (found ++ pair key.0 value.0 ∷ []) (spaced value.1)) (new_key_read found (spaced t))
-    (λ key h. bind (PairRead P key.0 (spaced t)) (PairsRest P found t) (value_of node key.1) (λ value. after_pair (pairs node n) (found ++ pair key.0 value.0 ∷ []) (spaced value.1)) (value_read P node reads (spaced t) key h.0)
+    (λ _. bind (NewKey true found (spaced t)) (PairsRest P found t) (new_key found (spaced t))
+    (λ key. value_of node key.1 >>= λ value. after_pair (pairs node n) (found ++ pair key.0 value.0 ∷ []) (spaced value.1))
+    (new_key_read found (spaced t))
+    (λ key h. bind (PairRead P key.0 (spaced t)) (PairsRest P found t) (value_of node key.1)
+    (λ value. after_pair (pairs node n) (found ++ pair key.0 value.0 ∷ []) (spaced value.1)) (value_read P node reads (spaced t) key h.0)
     (λ value v.
     let now = found ++ pair key.0 value.0 ∷ [] in
     choose (PairsRest P found t) (sees 125 (spaced value.1)) _ _
-    (λ e. record { rest = pair key.0 value.0 ∷ []; same = refl; listed = widen (λ s k. last k) (pair_listed P 125 t key value refl e h.0 v); distinct = distinct_last found key.0 value.0 h.1 })
+    (λ e. record {
+      rest = pair key.0 value.0 ∷ [];
+      same = refl;
+      listed = widen (λ s k. last k)
+          (pair_listed P 125 t key value refl e h.0 v);
+      distinct = distinct_last found key.0 value.0 h.1;
+    })
     (λ _. choose (PairsRest P found t) (sees 44 (spaced value.1)) _ _
     (λ e. mapped (PairsRest P now (drop 1 (spaced value.1))) (PairsRest P found t) (pairs node n now (drop 1 (spaced value.1)))
     (λ x k. pairs_next P found t key value x e h v k) (pairs_read P node reads n now (drop 1 (spaced value.1)))) (λ _. tt)))))
@@ -237,7 +264,9 @@ map_node P flow t x e h = (seen_full 123 t e, λ _. widen (λ s k. mapping h.res
 pub inline_read : (depth : ℕ) (flow : Bool) (t : Text) → IfOk (inline depth flow t) (NodeRead flow (IsInline depth flow) t)
 unfolding inline IsInline
 inline_read zero flow t =
-    allowed (NodeRead flow (IsText flow) t) (left_out t) t _ (choose (NodeRead flow (IsText flow) t) (sees 91 t) _ _ (λ _. tt) (λ _. choose (NodeRead flow (IsText flow) t) (sees 123 t) _ _ (λ _. tt) (λ _. text_read flow t)))
+    allowed (NodeRead flow (IsText flow) t) (left_out t) t _
+    (choose (NodeRead flow (IsText flow) t) (sees 91 t) _ _ (λ _. tt)
+    (λ _. choose (NodeRead flow (IsText flow) t) (sees 123 t) _ _ (λ _. tt) (λ _. text_read flow t)))
 inline_read (suc depth) flow t =
     let P : Production = IsInline depth true in
     let N : Yaml × Text → Type 0 = NodeRead flow (IsInline (suc depth) flow) t in
@@ -245,7 +274,10 @@ inline_read (suc depth) flow t =
     let rest = drop 1 t in
     let inside : (x : Yaml × Text) → NodeRead flow (IsFlow P) t x → N x = λ x h. (h.0, λ c. widen (λ s k. inr k) (h.1 c)) in
     allowed N (left_out t) t _ (choose N (sees 91 t) _ _
-    (λ e. mapped (ItemsRest P [] rest) N (items (inline depth true) (suc (length rest)) [] rest) (λ x h. inside x (seq_node P flow t x e h)) (items_read P (inline depth true) reads (suc (length rest)) [] rest))
+    (λ e. mapped (ItemsRest P [] rest) N (items (inline depth true) (suc (length rest)) [] rest) (λ x h. inside x (seq_node P flow t x e h))
+    (items_read P (inline depth true) reads (suc (length rest)) [] rest))
     (λ _. choose N (sees 123 t) _ _
-    (λ e. mapped (PairsRest P [] rest) N (pairs (inline depth true) (suc (length rest)) [] rest) (λ x h. inside x (map_node P flow t x e h)) (pairs_read P (inline depth true) reads (suc (length rest)) [] rest))
-    (λ _. mapped (NodeRead flow (IsText flow) t) N (scalar flow t >>= λ text. Ok (Scalar text.0, text.1)) (λ x h. (h.0, λ c. widen (λ s k. inl k) (h.1 c))) (text_read flow t))))
+    (λ e. mapped (PairsRest P [] rest) N (pairs (inline depth true) (suc (length rest)) [] rest) (λ x h. inside x (map_node P flow t x e h))
+    (pairs_read P (inline depth true) reads (suc (length rest)) [] rest))
+    (λ _. mapped (NodeRead flow (IsText flow) t) N (scalar flow t >>= λ text. Ok (Scalar text.0, text.1))
+    (λ x h. (h.0, λ c. widen (λ s k. inl k) (h.1 c))) (text_read flow t))))

@@ -30,7 +30,8 @@ gap_weaker b s r f e =
 pub closes_weaker : (flow : Bool) (b : ℕ) (s r : Text) → (sees 10 s ≡ true → sees 10 r ≡ true) → closes flow (b ∷ s) ≡ true
     → closes flow (b ∷ r) ≡ true
 closes_weaker flow b s r f e =
-    either (is_gap (b ∷ s)) (flow && is_flow_mark b) (λ g. left_true (is_gap (b ∷ r)) _ (gap_weaker b s r f g)) (λ g. right_true (is_gap (b ∷ r)) _ g) e
+    either (is_gap (b ∷ s)) (flow && is_flow_mark b) (λ g. left_true (is_gap (b ∷ r)) _ (gap_weaker b s r f g))
+    (λ g. right_true (is_gap (b ∷ r)) _ g) e
 
 weaker_cons : (flow : Bool) (b : ℕ) (s r : Text) → Weaker flow s r → Weaker flow (b ∷ s) (b ∷ r)
 weaker_cons flow b s r w = record { feed = λ e. e; close = closes_weaker flow b s r w.feed }
@@ -47,7 +48,8 @@ ends_weaker flow white b s r w e =
     (λ f. left_true (ends_line (b ∷ r) || (b == 58 && closes flow r) || mark) hash (either (ends_line (b ∷ s) || (b == 58 && closes flow s)) mark
     (λ g. left_true (ends_line (b ∷ r) || (b == 58 && closes flow r)) mark (either (ends_line (b ∷ s)) (b == 58 && closes flow s)
     (λ h. left_true (ends_line (b ∷ r)) _ (line_weaker b s r w.feed h))
-    (λ h. right_true (ends_line (b ∷ r)) _ (both_true (b == 58) _ (first_of_both (b == 58) (closes flow s) h) (w.close (second_of_both (b == 58) (closes flow s) h)))) g))
+    (λ h. right_true (ends_line (b ∷ r)) _ (both_true (b == 58) _ (first_of_both (b == 58) (closes flow s) h)
+    (w.close (second_of_both (b == 58) (closes flow s) h)))) g))
     (λ g. right_true (ends_line (b ∷ r) || (b == 58 && closes flow r)) mark g) f))
     (λ f. right_true (ends_line (b ∷ r) || (b == 58 && closes flow r) || mark) hash f) e
 
@@ -58,8 +60,11 @@ refuted false y f e = refl
 
 goes_weaker : (flow white : Bool) (v s r : Text) → Weaker flow s r → GoesOn flow white v r → GoesOn flow white v s
 goes_weaker flow white [] s r w h = h
-goes_weaker flow white (b ∷ v) s r w h =
-    (refuted (ends_plain flow white (b ∷ (v ++ s))) (ends_plain flow white (b ∷ (v ++ r))) (ends_weaker flow white b (v ++ s) (v ++ r) (weaker_append flow v s r w)) h.0, goes_weaker flow (is_white b) v s r w h.1)
+goes_weaker flow white (b ∷ v) s r w h = (
+  refuted (ends_plain flow white (b ∷ (v ++ s))) (ends_plain flow white (b ∷ (v ++ r)))
+      (ends_weaker flow white b (v ++ s) (v ++ r) (weaker_append flow v s r w)) h.0,
+  goes_weaker flow (is_white b) v s r w h.1,
+)
 
 pub not_true : (x : Bool) → not x ≡ true → x ≡ false
 not_true true e = absurd cc
@@ -76,7 +81,8 @@ begins_weaker flow b s r w e =
     let y = not (kind && closes flow r) in
     both_true (not (is_gap (b ∷ s) || is_indicator b)) (not (kind && closes flow s))
     (true_not (is_gap (b ∷ s) || is_indicator b) (refuted (is_gap (b ∷ s) || is_indicator b) (is_gap (b ∷ r) || is_indicator b)
-    (λ f. either (is_gap (b ∷ s)) (is_indicator b) (λ g. left_true (is_gap (b ∷ r)) _ (gap_weaker b s r w.feed g)) (λ g. right_true (is_gap (b ∷ r)) _ g) f)
+    (λ f. either (is_gap (b ∷ s)) (is_indicator b) (λ g. left_true (is_gap (b ∷ r)) _ (gap_weaker b s r w.feed g))
+    (λ g. right_true (is_gap (b ∷ r)) _ g) f)
     (not_true (is_gap (b ∷ r) || is_indicator b) (first_of_both x y e))))
     (true_not (kind && closes flow s) (refuted (kind && closes flow s) (kind && closes flow r)
     (λ f. both_true kind (closes flow r) (first_of_both kind (closes flow s) f) (w.close (second_of_both kind (closes flow s) f)))
@@ -104,7 +110,12 @@ weaker_more flow (b ∷ s) after full = record { feed = λ e. e; close = closes_
 -- ---- scalars
 
 as_scalar : (flow : Bool) (t : Text) (x : List ℕ × Text) → closes flow x.1 ≡ true → PlainText flow t x → Reads (IsScalar flow) t x
-as_scalar flow t x c h = record { part = x.0; whole = h.whole; holds = inr (refl, plain_weaker flow x.0 [] x.1 h.full (weaker_none flow x.1 c) h.is_plain) }
+as_scalar flow t x c h = record {
+  part = x.0;
+  whole = h.whole;
+  holds = inr
+      (refl, plain_weaker flow x.0 [] x.1 h.full (weaker_none flow x.1 c) h.is_plain);
+}
 
 -- a scalar, where what follows closes a plain one
 pub scalar_closed : (flow : Bool) (t : Text) (x : List ℕ × Text) → closes flow x.1 ≡ true → ScalarText flow t x → Reads (IsScalar flow) t x
@@ -147,7 +158,8 @@ plain_key_cut flow t after x c w p =
       part = x.0 ++ next;
       whole = p.whole ∙ ap (λ (s : Text). x.0 ++ s) same ∙ sym (append_assoc x.0 next after);
       holds = λ value f. plain_key white w.holds.is_first
-          (plain_weaker flow x.0 next (next ++ after) p.full (weaker_more flow next after (full_append white (58 ∷ []) (λ e. cc))) (subst P same p.is_plain))
+          (plain_weaker flow x.0 next (next ++ after) p.full (weaker_more flow next after (full_append white (58 ∷ []) (λ e. cc)))
+          (subst P same p.is_plain))
           refl (f c);
     }
 
@@ -170,7 +182,8 @@ abbrev Gaps : Text → Type 0
 Gaps s = (IsGap and_then Many IsGapOrComment) s
 
 gaps_begin : (s next : Text) → Gaps s → is_gap (s ++ next) ≡ true
-gaps_begin s next h = ap is_gap (ap (λ (x : Text). x ++ next) h.parts ∙ append_assoc h.first h.second next) ∙ gap_begins h.first (h.second ++ next) h.is_first
+gaps_begin s next h = ap is_gap (ap (λ (x : Text). x ++ next) h.parts ∙ append_assoc h.first h.second next)
+    ∙ gap_begins h.first (h.second ++ next) h.is_first
 
 -- where a mark of a flow collection comes next
 pub mark_closes : (c : ℕ) (t : Text) → sees c (spaced t) ≡ true → is_flow_mark c ≡ true → closes true t ≡ true

@@ -85,7 +85,8 @@ at_end : (P : Text → Type 0) (t : Text) → P [] → ends_line t ≡ true → 
 unfolding line_from
 at_end P [] p e = inl (p, refl)
 at_end P (b ∷ t) p e =
-    inr (either (b == 10) (b == 13 && sees 10 t) (at_feed P b t p) (λ f. at_return P b t p (first_of_both (b == 13) (sees 10 t) f) (second_of_both (b == 13) (sees 10 t) f)) e)
+    inr (either (b == 10) (b == 13 && sees 10 t) (at_feed P b t p)
+    (λ f. at_return P b t p (first_of_both (b == 13) (sees 10 t) f) (second_of_both (b == 13) (sees 10 t) f)) e)
 
 abbrev NoBreak : Text → Type 0
 NoBreak s = Each (λ c. (c == 10) ≡ false) s
@@ -110,12 +111,26 @@ white_not_feed b h = either (b == 32) (b == 9) (λ e. not_feed b 32 e refl) (λ 
 white_blank : (b : ℕ) (s : Text) → is_white b ≡ true → IsBlankLine s → IsBlankLine (b ∷ s)
 white_blank b s e (inl h) = inl (e, h)
 white_blank b s e (inr h) =
-    inr (record { first = b ∷ h.first; second = h.second; parts = ap (λ (x : Text). b ∷ x) h.parts; is_first = (e, h.is_first); is_second = h.is_second })
+    inr (record {
+      first = b ∷ h.first;
+      second = h.second;
+      parts = ap
+          (λ (x : Text). b ∷ x) h.parts;
+      is_first = (e, h.is_first);
+      is_second = h.is_second;
+    })
 
 white_rest : (b : ℕ) (s : Text) → is_white b ≡ true → IsBlankLine s → IsLineRest (b ∷ s)
 white_rest b s e (inl h) = inl (e, h)
 white_rest b s e (inr h) =
-    inr (record { first = b ∷ h.first; second = h.second; parts = ap (λ (x : Text). b ∷ x) h.parts; is_first = (e, h.is_first); is_second = h.is_second })
+    inr (record {
+      first = b ∷ h.first;
+      second = h.second;
+      parts = ap
+          (λ (x : Text). b ∷ x) h.parts;
+      is_first = (e, h.is_first);
+      is_second = h.is_second;
+    })
 
 comment_blank : (b : ℕ) (s : Text) → b ≡ 35 → NoBreak s → IsBlankLine (b ∷ s)
 comment_blank b s e h = inr (record { first = []; second = b ∷ s; parts = refl; is_first = tt; is_second = (e, h) })
@@ -137,7 +152,8 @@ unfolding past_white
 node_ends [] e = at_end IsLineRest [] (inl tt) refl
 node_ends (b ∷ t) e = go (is_white b) refl e
   where
-    go : (c : Bool) → is_white b ≡ c → (ends_line (cond c (past_white t) (b ∷ t)) || (c && sees 35 (cond c (past_white t) (b ∷ t)))) ≡ true → Ends IsLineRest (b ∷ t)
+    go : (c : Bool) → is_white b ≡ c → (ends_line (cond c (past_white t) (b ∷ t)) || (c && sees 35 (cond c (past_white t) (b ∷ t)))) ≡ true
+        → Ends IsLineRest (b ∷ t)
     go true w k = longer IsBlankLine IsLineRest b t (white_not_feed b w) (λ s. white_rest b s w) (blank_ends t k)
     go false w k = at_end IsLineRest (b ∷ t) (inl tt) (either (ends_line (b ∷ t)) false (λ f. f) (λ f. absurd cc) k)
 
@@ -209,9 +225,11 @@ line_over k t (inl h) go_on =
 line_over k t (inr h) go_on =
     let P : Lines → Type 0 = λ o. LinesRead (spaces k ++ t) o in
     let R : Option Line → Text → Type 0 = λ next s. Begun s next in
-    let same : (spaces k ++ h.over.part) ++ h.rest ≡ spaces k ++ t = append_assoc (spaces k) h.over.part h.rest ∙ ap (λ (x : Text). spaces k ++ x) (sym h.over.whole) in
+    let same : (spaces k ++ h.over.part) ++ h.rest ≡ spaces k ++ t = append_assoc (spaces k) h.over.part h.rest
+    ∙ ap (λ (x : Text). spaces k ++ x) (sym h.over.whole) in
     subst P (sym h.goes_on) (mapped (Begun h.rest) (Begun (spaces k ++ t)) (line_from (Some 0) h.rest)
-    (λ next p. subst (R next) same (more_lines (spaces k ++ h.over.part) h.rest next (spaces_line k h.over.part h.over.holds) p)) (go_on h.rest h.shorter))
+    (λ next p. subst (R next) same (more_lines (spaces k ++ h.over.part) h.rest next (spaces_line k h.over.part h.over.holds) p))
+    (go_on h.rest h.shorter))
 
 lines_read : (n k : ℕ) (t : Text) → length t < n → LinesRead (spaces k ++ t) (line_from (Some k) t)
 unfolding line_from
@@ -223,7 +241,8 @@ lines_read (suc n) k (b ∷ t) less =
     (λ e.
     let P : Text → Type 0 = λ s. LinesRead s (line_from (Some (k + 1)) t) in
     subst P (spaces_more k t ∙ ap (λ (c : ℕ). spaces k ++ c ∷ t) (sym (eqb-true b 32 e))) (lines_read n (k + 1) t (omega arith)))
-    (λ _. choose (Begun full) (is_blank (b ∷ t)) _ _ (λ e. line_over k (b ∷ t) (blank_ends (b ∷ t) e) (λ rest shorter. lines_read n 0 rest (omega arith)))
+    (λ _. choose (Begun full) (is_blank (b ∷ t)) _ _
+    (λ e. line_over k (b ∷ t) (blank_ends (b ∷ t) e) (λ rest shorter. lines_read n 0 rest (omega arith)))
     (λ _. choose (Begun full) (b == 9) _ _ (λ _. tt)
     (λ _. record { part = spaces k; whole = refl; holds = record { first = []; second = spaces k; parts = refl; is_first = none; is_second = refl } })))
 
@@ -268,7 +287,8 @@ next_over t (inr h) =
     let P : Lines → Type 0 = λ o. IfOk (o >>= without_marker) (Leads t) in
     let R : Text → Type 0 = λ s. IfOk (line_from (Some 0) h.rest >>= without_marker) (Leads s) in
     subst P (sym h.goes_on) (subst R (sym h.over.whole)
-    (bind (Begun h.rest) (Leads (h.over.part ++ h.rest)) (line_from (Some 0) h.rest) without_marker (first_line h.rest) (λ next p. line_after h.over.part h.rest next h.over.holds p)))
+    (bind (Begun h.rest) (Leads (h.over.part ++ h.rest)) (line_from (Some 0) h.rest) without_marker (first_line h.rest)
+    (λ next p. line_after h.over.part h.rest next h.over.holds p)))
 
 pub next_read : (t : Text) → ends_node t ≡ true → IfOk (next_line t) (Leads t)
 next_read t e = next_over t (node_ends t e)

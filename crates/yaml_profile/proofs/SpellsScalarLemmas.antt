@@ -49,7 +49,8 @@ single_more : (found : List ℕ) (b : ℕ) (front t : Text) (x : List ℕ × Tex
 single_more found b front t x e f h = record {
   value = b ∷ h.value;
   same = h.same ∙ append_assoc found (b ∷ []) h.value;
-  whole = ap (λ (s : Text). s ++ t) e ∙ ap (λ (s : Text). in_single b ++ s) h.whole ∙ sym (append_assoc (in_single b) (flat_map in_single h.value) (39 ∷ x.1));
+  whole = ap (λ (s : Text). s ++ t) e ∙ ap (λ (s : Text). in_single b ++ s) h.whole
+      ∙ sym (append_assoc (in_single b) (flat_map in_single h.value) (39 ∷ x.1));
   one_line = (f, h.one_line);
 }
 
@@ -69,7 +70,8 @@ single_reads found true (b ∷ t) =
 single_reads found false [] = tt
 single_reads found false (b ∷ t) =
     choose (SingleRest found (b ∷ t)) (b == 39) _ _
-    (λ e. let P : ℕ → Type 0 = λ c. IfOk (single found true t) (SingleRest found (c ∷ t)) in subst P (sym (eqb-true b 39 e)) (single_reads found true t))
+    (λ e. let P : ℕ → Type 0 = λ c. IfOk (single found true t) (SingleRest found (c ∷ t)) in subst P (sym (eqb-true b 39 e))
+    (single_reads found true t))
     (λ e. choose (SingleRest found (b ∷ t)) (ends_line (b ∷ t)) _ _ (λ _. tt)
     (λ f. mapped (SingleRest (found ++ b ∷ []) t) (SingleRest found (b ∷ t)) (single (found ++ b ∷ []) false t)
     (λ x h. single_more found b (b ∷ []) t x (itself b e) (left_false (b == 10) _ f) h) (single_reads (found ++ b ∷ []) false t)))
@@ -99,7 +101,8 @@ hex_more n number b d t x e h = record {
   values = d ∷ h.values;
   whole = ap (λ (s : Text). b ∷ s) h.whole;
   count = let k = h.count in omega arith;
-  of_digits = let some : ℕ → Option ℕ = λ v. Some v in ap (λ (o : Option ℕ). o ∷ map hex_value h.digits) e ∙ ap (λ (l : List (Option ℕ)). some d ∷ l) h.of_digits;
+  of_digits = let some : ℕ → Option ℕ = λ v. Some v in ap (λ (o : Option ℕ). o ∷ map hex_value h.digits) e
+      ∙ ap (λ (l : List (Option ℕ)). some d ∷ l) h.of_digits;
   same = h.same;
   valid = h.valid;
 }
@@ -114,7 +117,8 @@ hex_reads whole (suc n) number (b ∷ t) = go (hex_reads whole n) (hex_value b) 
   where
     go : ((m : ℕ) (s : Text) → IfOk (hex whole n m s) (HexRest n m s)) → (o : Option ℕ) → hex_value b ≡ o
         → IfOk (elim o [ Some d ↦ hex whole n (16 * number + d) t | None ↦ refuse Syntax whole ]) (HexRest (suc n) number (b ∷ t))
-    go next (Some d) e = mapped (HexRest n (16 * number + d) t) (HexRest (suc n) number (b ∷ t)) (hex whole n (16 * number + d) t) (λ x h. hex_more n number b d t x e h) (next (16 * number + d) t)
+    go next (Some d) e = mapped (HexRest n (16 * number + d) t) (HexRest (suc n) number (b ∷ t)) (hex whole n (16 * number + d) t)
+        (λ x h. hex_more n number b d t x e h) (next (16 * number + d) t)
     go next None e = tt
 
 abbrev EscapeReads : ℕ → Text → ℕ × Text → Type 0
@@ -128,9 +132,24 @@ by_kind_reads whole c (Some n) short t e f =
     record {
       part = c ∷ h.digits;
       whole = ap (λ (s : Text). c ∷ s) h.whole;
-      holds = inr (record { letter = c; digits = h.digits; values = h.values; written = refl; count = e ∙ ap some h.count; of_digits = h.of_digits; number = h.same; valid = h.valid });
+      holds = inr (record {
+        letter = c;
+        digits = h.digits;
+        values = h.values;
+        written = refl;
+        count = e
+            ∙ ap some h.count;
+        of_digits = h.of_digits;
+        number = h.same;
+        valid = h.valid;
+      });
     }) (hex_reads whole n 0 t)
-by_kind_reads whole c None (Some k) t e f = record { part = c ∷ []; whole = refl; holds = inl (record { letter = c; written = refl; stands_for = f }) }
+by_kind_reads whole c None (Some k) t e f = record {
+  part = c ∷ [];
+  whole = refl;
+  holds = inl
+      (record { letter = c; written = refl; stands_for = f });
+}
 by_kind_reads whole c None None t e f = tt
 
 abbrev EscapeRest : Text → ℕ × Text → Type 0
@@ -178,16 +197,23 @@ double_reads (suc n) found (b ∷ t) =
     (λ e. choose (DoubleRest found (b ∷ t)) (b == 92) _ _
     (λ f. bind (EscapeRest t) (DoubleRest found (b ∷ t)) (escape (b ∷ t) t) (λ c. double n (found ++ encode_utf8 c.0) c.1) (escape_reads (b ∷ t) t)
     (λ c k. mapped (DoubleRest (found ++ encode_utf8 c.0) c.1) (DoubleRest found (b ∷ t)) (double n (found ++ encode_utf8 c.0) c.1)
-    (λ x h. let P : ℕ → Type 0 = λ d. DoubleRest found (d ∷ t) x in subst P (sym (eqb-true b 92 f)) (double_escape found t c x k h)) (double_reads n (found ++ encode_utf8 c.0) c.1)))
+    (λ x h. let P : ℕ → Type 0 = λ d. DoubleRest found (d ∷ t) x in subst P (sym (eqb-true b 92 f)) (double_escape found t c x k h))
+    (double_reads n (found ++ encode_utf8 c.0) c.1)))
     (λ f. choose (DoubleRest found (b ∷ t)) (ends_line (b ∷ t)) _ _ (λ _. tt)
-    (λ g. mapped (DoubleRest (found ++ b ∷ []) t) (DoubleRest found (b ∷ t)) (double n (found ++ b ∷ []) t) (λ x h. double_byte found b t x e f (left_false (b == 10) _ g) h) (double_reads n (found ++ b ∷ []) t))))
+    (λ g. mapped (DoubleRest (found ++ b ∷ []) t) (DoubleRest found (b ∷ t)) (double n (found ++ b ∷ []) t)
+    (λ x h. double_byte found b t x e f (left_false (b == 10) _ g) h) (double_reads n (found ++ b ∷ []) t))))
 
 abbrev IsDouble : List ℕ → Text → Type 0
 IsDouble value text = (Is 34 and_then InDouble value and_then Is 34) text
 
 as_double : (t : Text) (x : List ℕ × Text) → DoubleRest [] t x → Reads IsDouble (34 ∷ t) x
 as_double t x h =
-    let inside : Cuts (InDouble x.0) t (34 ∷ x.1) = record { part = h.text; whole = h.whole; holds = let P : List ℕ → Type 0 = λ v. InDouble v h.text in subst P (sym h.same) h.inside } in
+    let inside : Cuts (InDouble x.0) t (34 ∷ x.1) = record {
+      part = h.text;
+      whole = h.whole;
+      holds = let P : List ℕ
+          → Type 0 = λ v. InDouble v h.text in subst P (sym h.same) h.inside;
+    } in
     chain (one_byte 34 t) (chain inside (one_byte 34 x.1))
 
 -- ---- plain
@@ -260,7 +286,8 @@ plain_more flow white at n b t e h = record {
 plain_reads : (flow white : Bool) (at len : ℕ) (t : Text) → PlainRest flow white at len t (plain_len flow white at len t)
 unfolding plain_len
 plain_reads flow white at len [] = inl (refl, colon_none flow)
-plain_reads flow white at len (b ∷ t) = go (ends_plain flow white (b ∷ t)) (is_white b) refl refl (plain_reads flow true (at + 1) len t) (plain_reads flow false (at + 1) (at + 1) t)
+plain_reads flow white at len (b ∷ t) = go (ends_plain flow white (b ∷ t)) (is_white b) refl refl (plain_reads flow true (at + 1) len t)
+    (plain_reads flow false (at + 1) (at + 1) t)
   where
     go : (c d : Bool) → ends_plain flow white (b ∷ t) ≡ c → is_white b ≡ d → PlainRest flow true (at + 1) len t (plain_len flow true (at + 1) len t)
         → PlainRest flow false (at + 1) (at + 1) t (plain_len flow false (at + 1) (at + 1) t)
@@ -268,10 +295,12 @@ plain_reads flow white at len (b ∷ t) = go (ends_plain flow white (b ∷ t)) (
     go true d e f p q = inl (refl, colon_end flow white b t e)
     go false true e f (inl h) q = inl (h.0, colon_white flow b t f h.1)
     go false true e f (inr h) q =
-        let P : Bool → Type 0 = λ w. PlainPart flow w (at + 1) t (plain_len flow true (at + 1) len t) in inr (plain_more flow white at _ b t e (subst P (sym f) h))
+        let P : Bool → Type 0 = λ w. PlainPart flow w (at + 1) t (plain_len flow true (at + 1) len t) in inr
+        (plain_more flow white at _ b t e (subst P (sym f) h))
     go false false e f p (inl h) = inr (record { part = b ∷ []; rest = t; whole = refl; goes_on = (e, f); count = let k = h.0 in omega arith; colon = h.1 })
     go false false e f p (inr h) =
-        let P : Bool → Type 0 = λ w. PlainPart flow w (at + 1) t (plain_len flow false (at + 1) (at + 1) t) in inr (plain_more flow white at _ b t e (subst P (sym f) h))
+        let P : Bool → Type 0 = λ w. PlainPart flow w (at + 1) t (plain_len flow false (at + 1) (at + 1) t) in inr
+        (plain_more flow white at _ b t e (subst P (sym f) h))
 
 -- a plain scalar with all that follows it
 pub record PlainText (flow : Bool) (t : Text) (x : List ℕ × Text) : Type 0 where
@@ -287,7 +316,8 @@ plain_over flow b s rest n begins goes colon e =
     let P : ℕ → Type 0 = λ k. IfOk (plain_of (b ∷ (s ++ rest)) k) (PlainText flow (b ∷ (s ++ rest))) in
     let front : take (suc (length s)) (b ∷ (s ++ rest)) ≡ b ∷ s = take-append_seam (b ∷ s) rest in
     let back : drop (suc (length s)) (b ∷ (s ++ rest)) ≡ rest = drop-append_seam (b ∷ s) rest in
-    let Q : Text → Text → Type 0 = λ v r. IfOk (cond (has_forbidden v) (refuse Syntax (b ∷ (s ++ rest))) (Ok (v, r))) (PlainText flow (b ∷ (s ++ rest))) in
+    let Q : Text → Text → Type 0 = λ v r. IfOk (cond (has_forbidden v) (refuse Syntax (b ∷ (s ++ rest))) (Ok (v, r)))
+    (PlainText flow (b ∷ (s ++ rest))) in
     subst P (sym e) (subst (λ v. Q v (drop (suc (length s)) (b ∷ (s ++ rest)))) (sym front) (subst (λ r. Q (b ∷ s) r) (sym back)
     (choose (PlainText flow (b ∷ (s ++ rest))) (has_forbidden (b ∷ s)) _ _ (λ _. tt)
     (λ f. record { whole = refl; is_plain = record { begins = begins; goes_on = goes; allowed = f }; colon = colon; full = λ k. cc }))))
@@ -321,8 +351,10 @@ unfolding scalar
 scalar_text flow t =
     choose (ScalarText flow t) (sees 39 t) _ _
     (λ e. mapped (SingleRest [] (drop 1 t)) (ScalarText flow t) (single [] false (drop 1 t))
-    (λ x h. let P : Text → Type 0 = λ s. Reads IsSingle s x in inl (widen (λ s k. inl k) (subst P (behind 39 t e) (as_single (drop 1 t) x h)))) (single_reads [] false (drop 1 t)))
+    (λ x h. let P : Text → Type 0 = λ s. Reads IsSingle s x in inl (widen (λ s k. inl k) (subst P (behind 39 t e) (as_single (drop 1 t) x h))))
+    (single_reads [] false (drop 1 t)))
     (λ _. choose (ScalarText flow t) (sees 34 t) _ _
     (λ e. mapped (DoubleRest [] (drop 1 t)) (ScalarText flow t) (double_quoted (drop 1 t))
-    (λ x h. let P : Text → Type 0 = λ s. Reads IsDouble s x in inl (widen (λ s k. inr k) (subst P (behind 34 t e) (as_double (drop 1 t) x h)))) (double_reads (suc (length (drop 1 t))) [] (drop 1 t)))
+    (λ x h. let P : Text → Type 0 = λ s. Reads IsDouble s x in inl (widen (λ s k. inr k) (subst P (behind 34 t e) (as_double (drop 1 t) x h))))
+    (double_reads (suc (length (drop 1 t))) [] (drop 1 t)))
     (λ _. mapped (PlainText flow t) (ScalarText flow t) (plain flow t) (λ x h. inr h) (plain_text flow t)))

@@ -58,8 +58,10 @@ comment_begin b t u e p =
       part = b ∷ p.part;
       whole = ap (λ (s : Text). b ∷ s) p.whole;
       holds = more ((b ∷ h.first) ++ h.is_second.first) h.is_second.second
-          (inr (both_parts {P = IsComment} {Q = IsBreak} (b ∷ h.first) h.is_second.first (eqb-true b 35 e, h.is_first) (inl h.is_second.is_first))) h.is_second.is_second
-          (ap (λ (s : Text). b ∷ s) (h.parts ∙ ap (λ (s : Text). h.first ++ s) h.is_second.parts ∙ sym (append_assoc h.first h.is_second.first h.is_second.second)));
+          (inr (both_parts {P = IsComment} {Q = IsBreak} (b ∷ h.first) h.is_second.first (eqb-true b 35 e, h.is_first)
+          (inl h.is_second.is_first))) h.is_second.is_second
+          (ap (λ (s : Text). b ∷ s) (h.parts ∙ ap (λ (s : Text). h.first ++ s) h.is_second.parts
+          ∙ sym (append_assoc h.first h.is_second.first h.is_second.second)));
     }
 
 white_gap : (b : ℕ) (t : Text) → is_white b ≡ true → Cuts IsGap (b ∷ t) t
@@ -89,7 +91,12 @@ gap_first b t e p q full =
     subst P (sym (after_break t two)) (λ k. chain (two_gap b t (first_of_both (b == 13) (sees 10 t) g) two) (q k)) full) f) e
 
 many_gap : (t u : Text) → Cuts (IsGap and_then Many IsGapOrComment) t u → Cuts (Many IsGapOrComment) t u
-many_gap t u p = record { part = p.part; whole = p.whole; holds = more p.holds.first p.holds.second (inl p.holds.is_first) p.holds.is_second p.holds.parts }
+many_gap t u p = record {
+  part = p.part;
+  whole = p.whole;
+  holds = more p.holds.first p.holds.second
+      (inl p.holds.is_first) p.holds.is_second p.holds.parts;
+}
 
 -- what holds of the state that a byte leads to leads to what holds here
 abbrev Goes : Between → Text → Type 0
@@ -102,12 +109,14 @@ space_step : (now : Between) (b : ℕ) (t : Text) → ((next : Between) → Goes
 unfolding past_space
 space_step InComment b t p q =
     let P : Between → Type 0 = λ next. Stops InComment (b ∷ t) (past_space next t) in
-    pick P (b == 10) AfterWhite InComment (λ e full. comment_end b t (past_space AfterWhite t) e (p AfterWhite full)) (λ e full. comment_more b t (past_space InComment t) e (p InComment full))
+    pick P (b == 10) AfterWhite InComment (λ e full. comment_end b t (past_space AfterWhite t) e (p AfterWhite full))
+    (λ e full. comment_more b t (past_space InComment t) e (p InComment full))
 space_step AfterWhite b t p q =
     let P : Option Between → Type 0 = λ o. Stops AfterWhite (b ∷ t) (elim o [ None ↦ b ∷ t | Some next ↦ past_space next t ]) in
     pick P (is_gap (b ∷ t)) (Some AfterWhite) (cond (b == 35) (Some InComment) None)
     (λ e full. many_gap (b ∷ t) (past_space AfterWhite t) (gap_first b t e (p AfterWhite) q full))
-    (λ _. pick P (b == 35) (Some InComment) None (λ e full. comment_begin b t (past_space InComment t) e (p InComment full)) (λ _ _. no_part (b ∷ t) none))
+    (λ _. pick P (b == 35) (Some InComment) None (λ e full. comment_begin b t (past_space InComment t) e (p InComment full))
+    (λ _ _. no_part (b ∷ t) none))
 space_step AfterByte b t p q =
     let P : Option Between → Type 0 = λ o. Stops AfterByte (b ∷ t) (elim o [ None ↦ b ∷ t | Some next ↦ past_space next t ]) in
     pick P (is_gap (b ∷ t)) (Some AfterWhite) None (λ e full. inr (gap_first b t e (p AfterWhite) q full)) (λ e _. inl (refl, e))
