@@ -79,7 +79,7 @@ IsDeeperOrSequence block column other tree t = (column < other ⊎ ((other ≡ c
 abbrev pub IsItem : Production → (ℕ → Production) → ℕ → Production
 IsItem inline block column tree t = (Is 45 and_then IsBeside inline (IsDeeper block column) tree) t
 
--- a pair of a block mapping at this column
+-- a pair of a block mapping at this column. Its key is no document marker there
 pub record IsEntry (inline : Production) (block : ℕ → Production) (column : ℕ) (pair : Pair) (t : Text) : Type 0 where
   pub key : Text
   pub value : Text
@@ -95,7 +95,7 @@ pub data IsBlockCollection (inline : Production) (block : ℕ → Production) (c
   mapping : (pairs : List Pair) → tree ≡ Map pairs → IsDistinct (map name_of pairs) → IsJoined column (IsEntry inline block column) pairs t
       → IsBlockCollection inline block column tree t
 
--- an inline node that begins at this column of a line
+-- an inline node that begins at this column of a line, and is no document marker there
 abbrev pub IsLineNode : ℕ → ℕ → Production
 IsLineNode depth column tree t = IsInline depth false tree t × (is_marker (column, t) ≡ false)
 
@@ -107,7 +107,7 @@ IsBlock (suc depth) column tree t = IsLineNode (suc depth) column tree t ⊎ IsB
 
 -- ---- a document
 
--- the line `---` and what follows it
+-- lines with no node in them, `---` at the start of a line, and what follows it
 abbrev pub IsMarked : (Text → Type 0) → Text → Type 0
 IsMarked rest t = (IsPassed and_then (λ s. s ≡ 45 ∷ 45 ∷ 45 ∷ []) and_then rest) t
 
