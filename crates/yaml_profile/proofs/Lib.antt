@@ -31,3 +31,5 @@ pub mod SpellsBackFlowLemmas
 pub mod SpellsBackBlockLemmas
 pub mod SpellsBackNodeLemmas
 pub mod SpellsBackDocumentLemmas
+pub mod WeightScalarLemmas
+pub mod WeightTreeLemmas

@@ -72,14 +72,14 @@ scalar_is c h = grind (arith, nat_tests)
 pub small_scalar : (c : ℕ) → c < 128 → is_scalar_value c ≡ true
 small_scalar c h = grind (arith, nat_tests)
 
--- the byte of an escape that stands for k
-abbrev Short : ℕ → ℕ → Type 0
-Short c k = (c < 128) × (is_scalar_value k ≡ true)
+-- the byte of an escape that stands for k. Both are ASCII
+abbrev pub Short : ℕ → ℕ → Type 0
+Short c k = (c < 128) × (k < 128)
 
 by_kind_fine : (whole : Text) (c : ℕ) (count short : Option ℕ) (t : Text) → IsUtf8 (c ∷ t) → IfSome count (λ _. c < 128) → IfSome short (Short c)
     → Fine (λ k. is_scalar_value k ≡ true) (by_kind whole count short t)
 by_kind_fine whole c (Some n) short t u small s = hex_fine whole n 0 t (behind_ascii c t small u)
-by_kind_fine whole c None (Some k) t u small s = (s.1, behind_ascii c t s.0 u)
+by_kind_fine whole c None (Some k) t u small s = (small_scalar k s.1, behind_ascii c t s.0 u)
 by_kind_fine whole c None None t u small s = tt
 
 hex_digits_small : (c : ℕ) → IfSome (hex_digits c) (λ _. c < 128)
@@ -89,7 +89,7 @@ hex_digits_small c =
     (λ _. choose_option (λ _. c < 128) (c == 85) _ _ (λ e. small_by c 85 e (omega arith)) (λ _. tt)))
 
 hit : (c k v : ℕ) → k < 128 → v < 128 → (c == k) ≡ true → Short c v
-hit c k v small low e = (small_by c k e small, small_scalar v low)
+hit c k v small low e = (small_by c k e small, low)
 
 itself_small : (c : ℕ) → (c == 92 || c == 34 || c == 47 || c == 32) ≡ true → c < 128
 itself_small c h =
@@ -99,9 +99,9 @@ itself_small c h =
     (λ f. small_by c 47 f (omega arith)) e)
     (λ e. small_by c 32 e (omega arith)) h
 
-short_small : (c : ℕ) → IfSome (short_escape c) (Short c)
+pub short_small : (c : ℕ) → IfSome (short_escape c) (Short c)
 short_small c =
-    choose_option (Short c) (c == 92 || c == 34 || c == 47 || c == 32) _ _ (λ e. (itself_small c e, small_scalar c (itself_small c e)))
+    choose_option (Short c) (c == 92 || c == 34 || c == 47 || c == 32) _ _ (λ e. (itself_small c e, itself_small c e))
     (λ _. choose_option (Short c) (c == 48) _ _ (hit c 48 0 (omega arith) (omega arith))
     (λ _. choose_option (Short c) (c == 97) _ _ (hit c 97 7 (omega arith) (omega arith))
     (λ _. choose_option (Short c) (c == 98) _ _ (hit c 98 8 (omega arith) (omega arith))

@@ -6,6 +6,7 @@ pub mod Block
 pub mod Read
 pub mod Tree
 pub mod Print
+pub mod Weight
 pub mod Space
 pub mod ScalarTexts
 pub mod Spells

@@ -16,7 +16,7 @@ mod text;
 mod yaml;
 
 pub use error::{Feature, YamlError};
-pub use laws::{spelled_tree_is_read, text_spells_its_tree};
+pub use laws::{spelled_tree_is_read, text_bounds_weight, text_spells_its_tree};
 pub use printer::{print, printed_trees_are_read, spellings_differ};
 pub use reader::read;
 pub use yaml::{Pair, Yaml};
