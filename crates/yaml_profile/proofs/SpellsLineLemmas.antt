@@ -7,7 +7,7 @@ use Rattle.yaml_profile.specs.declared.fault.Refusal.{Refusal}
 use Rattle.yaml_profile.specs.Text.{Text, ◌>>=◌, sees, is_white, ends_line, past_white}
 use Rattle.yaml_profile.specs.Block.{Line, is_blank, line_from, is_marker, without_marker, next_line, ends_node}
 use Rattle.yaml_profile.specs.Tree.{Each}
-use Rattle.yaml_profile.specs.Space.{◌and_then◌, none, more, IsBreak, IsLineRest, IsBlankLine, IsIndent, ToLine, IsBlankEnd, ToEnd}
+use Rattle.yaml_profile.specs.Space.{◌and_then◌, none, more, IsWhite, IsSomeWhite, IsBreak, IsComment, IsLineRest, IsBlankLine, IsIndent, ToLine, IsBlankEnd, ToEnd}
 use Rattle.yaml_profile.proofs.FineLemmas.{bind, choose, pick, either, first_of_both, second_of_both}
 use Rattle.yaml_profile.proofs.SpellsPartLemmas.{Cuts, both_parts, chain, widen, no_part, seen_byte, mapped}
 
@@ -108,29 +108,24 @@ not_feed b c e f = ap (λ (x : ℕ). x == 10) (eqb-true b c e) ∙ f
 white_not_feed : (b : ℕ) → is_white b ≡ true → (b == 10) ≡ false
 white_not_feed b h = either (b == 32) (b == 9) (λ e. not_feed b 32 e refl) (λ e. not_feed b 9 e refl) h
 
-white_blank : (b : ℕ) (s : Text) → is_white b ≡ true → IsBlankLine s → IsBlankLine (b ∷ s)
-white_blank b s e (inl h) = inl (e, h)
-white_blank b s e (inr h) =
+-- a byte of white space before a line with no node in it
+white_more : (First : Text → Type 0) (b : ℕ) (s : Text) → is_white b ≡ true → ((t : Text) → IsWhite t → First (b ∷ t)) → IsBlankLine s
+    → IsWhite (b ∷ s) ⊎ (First and_then IsComment) (b ∷ s)
+white_more First b s e before (inl h) = inl (e, h)
+white_more First b s e before (inr h) =
     inr (record {
       first = b ∷ h.first;
       second = h.second;
-      parts = ap
-          (λ (x : Text). b ∷ x) h.parts;
-      is_first = (e, h.is_first);
+      parts = ap (λ (x : Text). b ∷ x) h.parts;
+      is_first = before h.first h.is_first;
       is_second = h.is_second;
     })
 
+white_blank : (b : ℕ) (s : Text) → is_white b ≡ true → IsBlankLine s → IsBlankLine (b ∷ s)
+white_blank b s e h = white_more IsWhite b s e (λ t w. (e, w)) h
+
 white_rest : (b : ℕ) (s : Text) → is_white b ≡ true → IsBlankLine s → IsLineRest (b ∷ s)
-white_rest b s e (inl h) = inl (e, h)
-white_rest b s e (inr h) =
-    inr (record {
-      first = b ∷ h.first;
-      second = h.second;
-      parts = ap
-          (λ (x : Text). b ∷ x) h.parts;
-      is_first = (e, h.is_first);
-      is_second = h.is_second;
-    })
+white_rest b s e h = white_more IsSomeWhite b s e (λ t w. (e, w)) h
 
 comment_blank : (b : ℕ) (s : Text) → b ≡ 35 → NoBreak s → IsBlankLine (b ∷ s)
 comment_blank b s e h = inr (record { first = []; second = b ∷ s; parts = refl; is_first = tt; is_second = (e, h) })
