@@ -9,7 +9,7 @@ use Rattle.file_info.specs.declared.node.NodeName.{NodeName}
 use Rattle.file_info.specs.declared.node.NodeName.TheVariants.{Path}
 use Rattle.outside.specs.OrderForm.{paths_of}
 use Rattle.outside.specs.Meaning.{signature_of}
-use Rattle.manifest_reader.specs.declared.command.Command.{Command}
+use Rattle.build_manifest.specs.declared.command.Command.{Command}
 use Rattle.build_meaning.specs.Commands.{meaning_of}
 use Rattle.build_meaning.specs.Fresh.{Does, Sights, Fresh, source, made, nodes_read, as_read}
 use Rattle.build_meaning.specs.Unique.{HasOneMaker, SawOnce}

@@ -1,4 +1,3 @@
 pub mod FreshLemmas
 pub mod OrderlyLemmas
 pub mod MakerLemmas
-pub mod MarkLemmas

@@ -1,20 +1,16 @@
 -- The maker of a node, by its place.
-use Rattle.std.proofs.Common.{◌≡◌, ◌≤◌, ℕ, suc, Bool, true, false, cond, List, [], ◌∷◌, position, refl, sym, ap, ◌∙◌, subst, inl, inr}
+use Rattle.std.proofs.Common.{◌≡◌, ℕ, suc, Bool, true, false, cond, List, [], ◌∷◌, position, refl, sym, ap, ◌∙◌, subst, inl, inr}
 use Rattle.std.specs.Prelude.{slice_get, Option, Some, None}
 use Rattle.std.specs.Option.{option_map}
-use Rattle.file_info.specs.Content.{node_text}
 use Rattle.file_info.specs.Lists.{In}
 use Rattle.file_info.specs.declared.node.NodeName.{NodeName}
-use Rattle.file_info.specs.declared.node.NodeName.TheVariants.{Path}
-use Rattle.file_info.proofs.Lists.{In-drop-get, In-get, any-in, any-some, get-map}
-use Rattle.manifest_reader.specs.declared.command.Command.{Command}
-use Rattle.manifest_reader.specs.declared.command.Input.{Input}
-use Rattle.manifest_reader.specs.Places.{is_node, makes, maker_of}
-use Rattle.manifest_reader.specs.Manifest.{ManifestLists}
-use Rattle.manifest_reader.specs.FileManifest.{IsManifest}
-use Rattle.manifest_reader.proofs.SameLemmas.{same_node}
-use Rattle.manifest_reader.proofs.StepLemmas.{position_cons}
-use Rattle.build_meaning.proofs.OrderlyLemmas.{node_itself, one_place, same_maker, path_made, read_files, outputs_once, orderly}
+use Rattle.file_info.proofs.Lists.{In-get, any-in, any-some, get-map}
+use Rattle.build_manifest.specs.declared.command.Command.{Command}
+use Rattle.build_manifest.specs.Places.{is_node, makes, maker_of}
+use Rattle.build_manifest.specs.Manifest.{IsManifest, ManifestLists}
+use Rattle.build_manifest.proofs.SameLemmas.{same_node}
+use Rattle.build_manifest.proofs.StepLemmas.{position_cons}
+use Rattle.build_meaning.proofs.OrderlyLemmas.{node_itself, one_place, same_maker, outputs_once, orderly}
 
 -- an item and its place
 abbrev Placed : {X : Type 0} → (X → Bool) → List X → ℕ → Type 0
@@ -66,12 +62,3 @@ maker_at m h n k c at o =
     let there : slice_get m.commands j ≡ Some c = at' ∙ ap Some same in
     let places : j ≡ k = one_place _ j k c.name (orderly m h).names (get-map name m.commands j c there) (get-map name m.commands k c at) in
     is ∙ ap Some places
-
--- the maker of an input stands before the command
-pub maker_before : (m : ManifestLists) → IsManifest m → (k j : ℕ) (c : Command) (i : Input) → slice_get m.commands k ≡ Some c → In i c.inputs
-    → maker_of m.commands i.node ≡ Some j → k ≤ j → ⊥
-maker_before m h k j c i at r is late =
-    let (e, at', o) = maker_makes m.commands i.node j is in
-    let file : i.node ≡ Path (node_text i.node) = read_files m h c i (In-get m.commands k c at) r in
-    let output = path_made e (node_text i.node) (subst (λ z. In z e.outputs) file o) in
-    (orderly m h).inputs k c i at r (record { by = e; named = In-drop-get m.commands k j e at' late; output = output })

@@ -1,21 +1,17 @@
 -- The rules over the commands of a manifest, as facts.
-use Rattle.std.proofs.Common.{◌≡◌, ℕ, zero, suc, Bool, true, false, not, ◌&&◌, List, [], ◌∷◌, ◌++◌, drop, refl, sym, ap, ◌∙◌, subst, inl, inr, rules}
+use Rattle.std.proofs.Common.{◌≡◌, ℕ, zero, suc, Bool, true, false, not, ◌&&◌, List, [], ◌∷◌, ◌++◌, refl, sym, ap, ◌∙◌, subst, inl, inr, rules}
 use Rattle.std.specs.Prelude.{slice_get, Some, bytes_eq}
-use Rattle.std.specs.List.{list_any, list_all}
+use Rattle.std.specs.List.{list_any}
 use Rattle.std.proofs.lemmas.Slice.Eq.{bytes_eq-Decides}
-use Rattle.file_info.specs.Content.{node_text}
 use Rattle.file_info.specs.Lists.{In, IsDistinct}
 use Rattle.file_info.specs.declared.node.NodeName.{NodeName}
 use Rattle.file_info.specs.declared.node.NodeName.TheVariants.{Path, Virtual}
 use Rattle.outside.specs.OrderForm.{paths_of}
 use Rattle.file_info.proofs.Lists.{In-get, In-left, In-right, any-in}
-use Rattle.manifest_reader.specs.declared.command.Command.{Command}
-use Rattle.manifest_reader.specs.declared.command.Input.{Input}
-use Rattle.manifest_reader.specs.Places.{is_node, makes}
-use Rattle.manifest_reader.specs.Rules.{differ, all_outputs, command_names, target_names, is_made, are_in_order}
-use Rattle.manifest_reader.specs.Manifest.{ManifestLists}
-use Rattle.manifest_reader.specs.FileManifest.{IsManifest}
-use Rattle.build_meaning.specs.Fresh.{IsMade}
+use Rattle.build_manifest.specs.declared.command.Command.{Command}
+use Rattle.build_manifest.specs.Distinct.{differ}
+use Rattle.build_manifest.specs.Manifest.{IsManifest, ManifestLists}
+use Rattle.build_manifest.specs.Places.{is_node, all_outputs, command_names}
 use Rattle.build_meaning.specs.Unique.{HasOneMaker}
 use Rattle.build_meaning.specs.Orderly.{AreOrderly}
 
@@ -26,11 +22,6 @@ both false b e = absurd (search (rules))
 not_both : (b : Bool) → not b ≡ true → b ≡ true → ⊥
 not_both true n e = search (rules)
 not_both false n e = search (rules)
-
-all_in : {A : Type 0} (p : A → Bool) (xs : List A) (x : A) → In x xs → list_all p xs ≡ true → p x ≡ true
-all_in p [] x i e = absurd i
-all_in p (y ∷ xs) x (inl same) e = ap p same ∙ (both (p y) (list_all p xs) e).0
-all_in p (y ∷ xs) x (inr i) e = all_in p xs x i (both (p y) (list_all p xs) e).1
 
 -- two equal nodes are one
 pub node_itself : (n : NodeName) → is_node n n ≡ true
@@ -117,50 +108,16 @@ one_maker cs d c e k j p i f at at' =
     let same : c ≡ e = same_maker cs c e (Path p) d i f o q in
     (same, one_place (paths_of e.outputs) k j p (distinct_paths e.outputs (distinct_outputs cs e d f)) (ap (λ (z : Command). slice_get (paths_of z.outputs) k) (sym same) ∙ at) at')
 
--- each input of the commands is a file
-abbrev ReadFiles : List Command → Type 0
-ReadFiles cs = (c : Command) (i : Input) → In c cs → In i c.inputs → i.node ≡ Path (node_text i.node)
-
-made_node : (cs : List Command) (n : NodeName) → n ≡ Path (node_text n) → IsMade cs (node_text n) → is_made cs n ≡ true
-made_node cs n file made =
-    let o : In n made.by.outputs = subst (λ z. In z made.by.outputs) (sym file) (made_path made.by (node_text n) made.output) in
-    any-in (makes n) cs made.by made.named (any-in (is_node n) made.by.outputs n o (node_itself n))
-
-in_order : (cs : List Command) → ReadFiles cs → are_in_order cs ≡ true → (k : ℕ) (c : Command) (i : Input) → slice_get cs k ≡ Some c → In i c.inputs
-    → IsMade (drop k cs) (node_text i.node) → ⊥
-in_order [] files h k c i e r made = cc e
-in_order (d ∷ cs) files h zero c i e r made =
-    let same : c ≡ d = cc e in
-    let read : In i d.inputs = subst (λ (z : Command). In i z.inputs) same r in
-    let parts = both (list_all (λ (n : Input). not (is_made (d ∷ cs) n.node)) d.inputs) (are_in_order cs) h in
-    not_both (is_made (d ∷ cs) i.node) (all_in (λ (n : Input). not (is_made (d ∷ cs) n.node)) d.inputs i read parts.0)
-    (made_node (d ∷ cs) i.node (files d i (inl refl) read) made)
-in_order (d ∷ cs) files h (suc k) c i e r made =
-    let parts = both (list_all (λ (n : Input). not (is_made (d ∷ cs) n.node)) d.inputs) (are_in_order cs) h in
-    in_order cs (λ b n j. files b n (inr j)) parts.1 k c i e r made
-
--- the inputs of a manifest's commands are files
-pub read_files : (m : ManifestLists) → IsManifest m → (c : Command) (i : Input) → In c m.commands → In i c.inputs → i.node ≡ Path (node_text i.node)
-read_files m h c i j r =
-    let file = ((h.commands c j).inputs.files i r).node in
-    file.is ∙ ap (λ (n : NodeName). Path (node_text n)) (sym file.is)
-
 -- no node is an output twice
 pub outputs_once : (m : ManifestLists) → IsManifest m → IsDistinct (all_outputs m.commands)
-outputs_once m h =
-    let halves = both (differ bytes_eq (target_names m.targets) && differ bytes_eq (command_names m.commands)) (differ is_node (all_outputs m.commands) && are_in_order m.commands) h.rules in
-    distinct_of is_node node_itself (all_outputs m.commands) (both (differ is_node (all_outputs m.commands)) (are_in_order m.commands) halves.1).0
+outputs_once m h = distinct_of is_node node_itself (all_outputs m.commands) h.one_maker
 
 -- the commands of a manifest are orderly
 pub orderly : (m : ManifestLists) → IsManifest m → AreOrderly m.commands
 orderly m h =
-    let halves = both (differ bytes_eq (target_names m.targets) && differ bytes_eq (command_names m.commands)) (differ is_node (all_outputs m.commands) && are_in_order m.commands) h.rules in
-    let names = both (differ bytes_eq (target_names m.targets)) (differ bytes_eq (command_names m.commands)) halves.0 in
-    let order = both (differ is_node (all_outputs m.commands)) (are_in_order m.commands) halves.1 in
     let once = outputs_once m h in
     record {
-      names = distinct_of bytes_eq (λ n. (bytes_eq-Decides n n).1 refl) (command_names m.commands) names.1;
+      names = distinct_of bytes_eq (λ n. (bytes_eq-Decides n n).1 refl) (command_names m.commands) h.parts.command_names;
       makers = one_maker m.commands once;
       outputs = λ c i. distinct_paths c.outputs (distinct_outputs m.commands c once i);
-      inputs = in_order m.commands (read_files m h) order.1;
     }

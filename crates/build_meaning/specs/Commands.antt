@@ -4,15 +4,15 @@ use Rattle.file_info.specs.Content.{node_text}
 use Rattle.file_info.specs.declared.node.NodeName.{NodeName}
 use Rattle.outside.specs.declared.order.EnvText.{EnvText}
 use Rattle.outside.specs.Meaning.{InputKey, NodeKey, TreeKey, StructureKey, ToolMeaning, Phony, ShellWords, ShellLine, ShellSigned, MakesDirectory, MakesLink, Archives, RemovesStale, Meaning}
-use Rattle.manifest_reader.specs.declared.command.Args.{Args}
-use Rattle.manifest_reader.specs.declared.command.Args.TheVariants.{Absent, Words, Line}
-use Rattle.manifest_reader.specs.declared.command.Command.{Command}
-use Rattle.manifest_reader.specs.declared.command.EnvPair.{EnvPair}
-use Rattle.manifest_reader.specs.declared.command.Input.{Input}
-use Rattle.manifest_reader.specs.declared.command.InputForm.{InputForm}
-use Rattle.manifest_reader.specs.declared.command.InputForm.TheVariants.{File, Virtual, Tree, Structure}
-use Rattle.manifest_reader.specs.declared.command.Tool.{Tool}
-use Rattle.manifest_reader.specs.declared.command.Tool.TheVariants as tools
+use Rattle.build_manifest.specs.declared.command.Args.{Args}
+use Rattle.build_manifest.specs.declared.command.Args.TheVariants.{Absent, Words, Line}
+use Rattle.build_manifest.specs.declared.command.Command.{Command}
+use Rattle.build_manifest.specs.declared.command.EnvPair.{EnvPair}
+use Rattle.build_manifest.specs.declared.command.Input.{Input}
+use Rattle.build_manifest.specs.declared.command.InputForm.{InputForm}
+use Rattle.build_manifest.specs.declared.command.InputForm.TheVariants.{File, Virtual, Tree, Structure}
+use Rattle.build_manifest.specs.declared.command.Tool.{Tool}
+use Rattle.build_manifest.specs.declared.command.Tool.TheVariants as tools
 
 -- what a command asks of a node that is read in this form
 abbrev pub key_in : NodeName → InputForm → InputKey

@@ -7,8 +7,8 @@ use Rattle.file_info.specs.declared.node.NodeName.{NodeName}
 use Rattle.file_info.specs.declared.node.NodeName.TheVariants.{Path}
 use Rattle.outside.specs.OrderForm.{paths_of}
 use Rattle.outside.specs.Meaning.{signature_of}
-use Rattle.manifest_reader.specs.declared.command.Command.{Command}
-use Rattle.manifest_reader.specs.declared.command.Input.{Input}
+use Rattle.build_manifest.specs.declared.command.Command.{Command}
+use Rattle.build_manifest.specs.declared.command.Input.{Input}
 use Rattle.build_meaning.specs.Commands.{meaning_of}
 
 -- a law of commands: a relation from the text of a meaning and the contents of what was read and found to those of what was

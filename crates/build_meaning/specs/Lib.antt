@@ -3,4 +3,3 @@ pub mod Fresh
 pub mod Need
 pub mod Unique
 pub mod Orderly
-pub mod Marks

@@ -1,9 +1,8 @@
 //! Laws over the definitions, each the clause of a function that does nothing.
 ghost use Rattle.std.specs.Prelude.{◌≡◌, ℕ, List as Items};
 ghost use Rattle.file_info.specs.Content.{Content, FileVersion};
-ghost use Rattle.manifest_reader.specs.declared.command.Command.{Command};
-ghost use Rattle.manifest_reader.specs.Manifest.{ManifestLists};
-ghost use Rattle.manifest_reader.specs.FileManifest.{IsManifest};
+ghost use Rattle.build_manifest.specs.declared.command.Command.{Command};
+ghost use Rattle.build_manifest.specs.Manifest.{IsManifest, ManifestLists};
 ghost use Rattle.build_meaning.specs.Fresh.{Fresh, Sights};
 ghost use Rattle.build_meaning.specs.Orderly.{AreOrderly};
 ghost use Rattle.build_meaning.specs.Unique.{HasOneMaker, SawOnce};

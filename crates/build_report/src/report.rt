@@ -83,6 +83,8 @@ pub enum End<F> {
     Manifest(LoadError),
     /// The manifest has no target of this name.
     UnknownTarget { name: Bytes },
+    /// The target, or a command that it needs, uses what is not built yet.
+    NotBuilt { asker: Name },
     /// The disk or the world failed.
     DiskFault,
     /// A program could not be run.

@@ -1,51 +1,16 @@
 //! The texts that are printed.
-ghost use Rattle.std.specs.Prelude.{◌≡◌, ◌<◌, ◌++◌, IfOk, OnOk, codes, decimal};
-ghost use Rattle.build_report.specs.Escape.{at_byte, hex_digit, show, shown_byte};
-ghost use Rattle.build_report.specs.ErrorText.{feature_text, left_out_text, load_text, yaml_text};
+ghost use Rattle.std.specs.Prelude.{◌≡◌, ◌++◌, IfOk, OnOk, codes, decimal};
+ghost use Rattle.build_report.specs.Escape.{show};
 ghost use Rattle.build_report.specs.Text.{end_text, ending_text, failure_text, is_silent, line_of, summary_text, usage_text};
 ghost use Rattle.build_report.specs.Status.{status_of};
 
+use crate::refused::push_load_error;
 use crate::report::{End, Start, UsageFault};
+use crate::shown::{push_named, push_shown};
 use file_info::memory::NoMemory;
 use file_info::name::Name;
-use manifest_reader::error::LoadError;
 use outside::order::Exit;
 use std::alloc::{AllocError, Global};
-use yaml_profile::{Feature, YamlError};
-
-// The digit of a number below 16.
-fn hex_digit(number: u8) -> u8
-    requires { number < 16 }
-    ensures { result ≡ hex_digit number }
-{
-    if number < 10 {
-        b'0' + number
-    } else {
-        b'a' + (number - 10)
-    }
-}
-
-// Adds a byte: a control character of ASCII as `\x` and two lower-case hexadecimal digits.
-fn push_byte(out: &mut Vec<u8>, byte: u8) -> Result<(), AllocError>
-    ensures { OnOk result (out.new.items ≡ out.old.items ++ shown_byte byte) }
-{
-    if byte < 0x20 || byte == 0x7F {
-        out.extend_from_slice(&[b'\\', b'x', hex_digit(byte / 16), hex_digit(byte % 16)])
-    } else {
-        out.push(byte)?;
-        Ok(())
-    }
-}
-
-// Adds a text as it is shown.
-fn push_shown(out: &mut Vec<u8>, text: &[u8]) -> Result<(), AllocError>
-    ensures { OnOk result (out.new.items ≡ out.old.items ++ show text.now) }
-{
-    for byte in text {
-        push_byte(out, *byte)?;
-    }
-    Ok(())
-}
 
 /// The line of a start: its number from 1 in brackets, and what is shown of the command.
 pub fn line_of(alloc: Global, place: u64, start: &Start) -> Result<Vec<u8>, NoMemory>
@@ -62,74 +27,6 @@ pub fn summary(alloc: Global, starts: u64) -> Result<Vec<u8>, NoMemory>
     ensures { IfOk result (λ text. text.items ≡ summary_text starts) }
 {
     Ok(format!(in alloc; "ok: {starts} started\n")?.into_bytes())
-}
-
-// A text, and the place of a byte after it.
-#[tactic(auto, unfolding(crate::specs::Escape::at_byte))]
-fn push_at(alloc: Global, out: &mut Vec<u8>, text: &[u8], at: u64) -> Result<(), AllocError>
-    ensures { OnOk result (out.new.items ≡ out.old.items ++ at_byte text.now at) }
-{
-    out.extend_from_slice(text)?;
-    out.extend_from_slice(b" at byte ")?;
-    out.extend_from_slice(format!(in alloc; "{at}")?.as_bytes())
-}
-
-// The name of what the profile leaves out.
-fn feature_text(feature: Feature) -> &'static [u8]
-    ensures { result.now ≡ feature_text feature }
-{
-    match feature {
-        Feature::Anchor => b"anchor",
-        Feature::Alias => b"alias",
-        Feature::Tag => b"tag",
-        Feature::Directive => b"directive",
-        Feature::Documents => b"documents",
-        Feature::BlockScalar => b"block scalar",
-        Feature::ManyLines => b"many lines",
-        Feature::ExplicitKey => b"explicit key",
-        Feature::Compact => b"compact",
-    }
-}
-
-// What the profile leaves out, and where.
-fn push_left_out(
-    alloc: Global,
-    out: &mut Vec<u8>,
-    feature: Feature,
-    at: u64,
-) -> Result<(), AllocError>
-    ensures { OnOk result (out.new.items ≡ out.old.items ++ left_out_text feature at) }
-{
-    push_at(alloc, out, b"left out", at)?;
-    out.extend_from_slice(b": ")?;
-    out.extend_from_slice(feature_text(feature))
-}
-
-// Why a text has no tree.
-fn push_yaml_error(alloc: Global, out: &mut Vec<u8>, error: &YamlError) -> Result<(), AllocError>
-    ensures { OnOk result (out.new.items ≡ out.old.items ++ yaml_text error.now) }
-{
-    match error {
-        YamlError::TooLong => out.extend_from_slice(b"too long"),
-        YamlError::NotUtf8 { at } => push_at(alloc, out, b"not UTF-8", *at),
-        YamlError::LeftOut { feature, at } => push_left_out(alloc, out, *feature, *at),
-        YamlError::Indent { at } => push_at(alloc, out, b"indentation", *at),
-        YamlError::TooDeep { at } => push_at(alloc, out, b"too deep", *at),
-        YamlError::RepeatedKey { at } => push_at(alloc, out, b"repeated key", *at),
-        YamlError::Syntax { at } => push_at(alloc, out, b"syntax", *at),
-        YamlError::NoMemory => out.extend_from_slice(b"out of memory"),
-    }
-}
-
-// Why a manifest was refused.
-fn push_load_error(alloc: Global, out: &mut Vec<u8>, error: &LoadError) -> Result<(), AllocError>
-    ensures { OnOk result (out.new.items ≡ out.old.items ++ load_text error.now) }
-{
-    match error {
-        LoadError::Yaml(error) => push_yaml_error(alloc, out, error),
-        LoadError::NotYet => out.extend_from_slice(b"not yet"),
-        LoadError::NoMemory => out.extend_from_slice(b"out of memory"),
-    }
 }
 
 // How a program ended that failed.
@@ -164,20 +61,6 @@ fn push_missing(out: &mut Vec<u8>, asker: &Name, node: &Name) -> Result<(), Allo
     out.extend_from_slice(b", which is missing")
 }
 
-// A text, and something shown after it.
-fn push_named(
-    out: &mut Vec<u8>,
-    before: &[u8],
-    shown: &[u8],
-    after: &[u8],
-) -> Result<(), AllocError>
-    ensures { OnOk result (out.new.items ≡ out.old.items ++ (before.now ++ show shown.now ++ after.now)) }
-{
-    out.extend_from_slice(before)?;
-    push_shown(out, shown)?;
-    out.extend_from_slice(after)
-}
-
 fn push_usage(out: &mut Vec<u8>, fault: UsageFault) -> Result<(), AllocError>
     ensures { OnOk result (out.new.items ≡ out.old.items ++ usage_text fault) }
 {
@@ -208,6 +91,14 @@ fn push_end<F>(alloc: Global, out: &mut Vec<u8>, end: &End<F>) -> Result<(), All
             push_load_error(alloc, out, error)
         }
         End::UnknownTarget { name } => push_named(out, b"unknown target ", name.as_slice(), b""),
+        End::NotBuilt { asker } => {
+            push_named(
+                out,
+                b"",
+                asker.text().as_bytes(),
+                b" uses what is not built yet",
+            )
+        }
         End::DiskFault => out.extend_from_slice(b"the disk failed"),
         End::HostFault { command, fault: _ } => {
             let name = command.text().as_bytes();
@@ -240,7 +131,11 @@ pub fn status<F>(end: &End<F>) -> u8
     match end {
         End::Ok => 0,
         End::CommandFailed { .. } | End::MissingInput { .. } => 1,
-        End::Usage(_) | End::NoFile { .. } | End::Manifest(_) | End::UnknownTarget { .. } => 2,
+        End::Usage(_)
+        | End::NoFile { .. }
+        | End::Manifest(_)
+        | End::UnknownTarget { .. }
+        | End::NotBuilt { .. } => 2,
         End::DiskFault | End::HostFault { .. } | End::SinkFault => 3,
         End::NoMemory => 5,
     }

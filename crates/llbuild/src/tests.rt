@@ -11,6 +11,7 @@ use memory_world::memory::MemoryWorld;
 use memory_world::sinks::VecSink;
 use memory_world::toy::ToyLaw;
 use memory_world::write::What;
+use outside::order::Act;
 use outside::world::{NoFault, World};
 use real_world::world::RealWorld;
 use std::alloc::Global;
@@ -129,6 +130,7 @@ fn end_name(end: &End<NoFault>) -> &'static str {
         End::NoFile { .. } => "NoFile",
         End::Manifest(_) => "Manifest",
         End::UnknownTarget { .. } => "UnknownTarget",
+        End::NotBuilt { .. } => "NotBuilt",
         End::DiskFault => "DiskFault",
         End::HostFault { .. } => "HostFault",
         End::SinkFault => "SinkFault",
@@ -219,7 +221,8 @@ one|-|buildsystem build --serial --no-db -f m.llbuild all|MissingInput|1||error:
 wide|one|buildsystem build --serial --no-db -f m.llbuild all|MissingInput|1|[1] p;|error: all needs ./u, which is missing;
 one|fail|buildsystem build --serial --no-db -f m.llbuild all|CommandFailed|1|[1] p;|error: command p ended with status 1;
 chain|fail|buildsystem build --serial --no-db -f m.llbuild all|CommandFailed|1|[1] first;[2] second;|error: command second ended with status 1;
-short|-|buildsystem build --serial --no-db -f m.llbuild all|Manifest|2||error: manifest: not yet;
+short|-|buildsystem build --serial --no-db -f m.llbuild all|UnknownTarget|2||error: unknown target all;
+other|-|buildsystem build --serial --no-db -f m.llbuild all|Manifest|2||error: manifest: wrong client other version 0;
 alias|-|buildsystem build --serial --no-db -f m.llbuild all|Manifest|2||error: manifest: left out at byte 8: alias;
 one|one||Usage|2||error: usage: the words are refused;
 one|one|buildsystem build --serial --no-db -f m.llbuild|Usage|2||error: usage: the words are refused;
@@ -243,6 +246,7 @@ fn manifest_named(name: &str) -> &'static str {
         "wide" => WIDE,
         "chain" => CHAIN,
         "short" => "client: {name: basic}\n",
+        "other" => "client: {name: other}\n",
         _ => "client: *name\n",
     }
 }
@@ -290,6 +294,108 @@ fn failures_have_their_ends(rt: HostRuntime) -> Result<(), Fail> {
         )?;
         is_as(&rt, &ran.finish, &ran.out, &ran.err, &mut row);
     }
+    Ok(())
+}
+
+// Targets of which each uses one thing that is not built yet, or is built beside what is not.
+const WIDER: &str = "client: {name: basic}
+targets:
+  all: ['<all>']
+  tree: [d/]
+  env: [a]
+  follow: [b]
+  input: [c]
+  later: [e]
+  own: [o]
+  missing: [h]
+  apart: [i]
+  deps: [j]
+  signed: [k]
+  both: [k, a]
+  leave: [l]
+  always: [m]
+  virtual: [n]
+  folder: [g]
+  beside: [t]
+  line: [u]
+  shown: [w]
+commands:
+  sets: {tool: shell, outputs: [a], args: [make, a], env: {K: v}}
+  follows: {tool: shell, outputs: [b], args: [make, b], must-follow: [s]}
+  lists: {tool: shell, inputs: [d/], outputs: [c], args: [list, d]}
+  early: {tool: shell, inputs: [f], outputs: [e], args: [cp, f, e]}
+  late: {tool: shell, outputs: [f], args: [make, f]}
+  turns: {tool: shell, inputs: [o], outputs: [o], args: [cp, o, o]}
+  lacks: {tool: shell, inputs: [a], outputs: [h], args: [cp, a, h]}
+  bare: {tool: shell, outputs: [i], args: [make, i], inherit-env: false}
+  tells: {tool: shell, outputs: [j], args: [make, j], deps: j.d}
+  signs: {tool: shell, outputs: [k], args: [make, k], signature: one}
+  leaves: {tool: shell, outputs: [l], args: [make, l], allow-missing-inputs: true}
+  repeats: {tool: shell, outputs: [m], args: [make, m], always-out-of-date: true}
+  marks: {tool: shell, outputs: [n, '<n>'], args: [make, n]}
+  makes: {tool: mkdir, outputs: [g]}
+  stands: {tool: phony, inputs: [t], outputs: ['<all>']}
+  p: {tool: shell, inputs: [s], outputs: [t], args: [cp, s, t]}
+  line: {tool: shell, inputs: [s], outputs: [u], args: cp s u}
+  shown: {tool: shell, inputs: [s], outputs: [w], args: [cp, s, w], description: copies s}
+";
+
+// A target of `WIDER` a line, the end of a run that builds it, the status, and what is written on `out` and on `err`.
+const WIDER_ENDS: &str = "\
+all|NotBuilt|2||error: all uses what is not built yet;
+tree|NotBuilt|2||error: tree uses what is not built yet;
+env|NotBuilt|2||error: sets uses what is not built yet;
+follow|NotBuilt|2||error: follows uses what is not built yet;
+input|NotBuilt|2||error: lists uses what is not built yet;
+later|NotBuilt|2||error: early uses what is not built yet;
+own|NotBuilt|2||error: turns uses what is not built yet;
+missing|NotBuilt|2||error: sets uses what is not built yet;
+apart|NotBuilt|2||error: bare uses what is not built yet;
+deps|NotBuilt|2||error: tells uses what is not built yet;
+signed|NotBuilt|2||error: signs uses what is not built yet;
+both|NotBuilt|2||error: sets uses what is not built yet;
+leave|NotBuilt|2||error: leaves uses what is not built yet;
+always|NotBuilt|2||error: repeats uses what is not built yet;
+virtual|NotBuilt|2||error: marks uses what is not built yet;
+folder|NotBuilt|2||error: makes uses what is not built yet;
+beside|Ok|0|[1] p;ok: 1 started;|
+line|Ok|0|[1] line;ok: 1 started;|
+shown|Ok|0|[1] copies s;ok: 1 started;|";
+
+// The run that builds this target of `WIDER` on the source `one`.
+fn run_wider(alloc: Global, target: &str) -> Result<Ran, Fail> {
+    let line = format!(in alloc; "buildsystem build --serial --no-db -f m.llbuild {target}")?;
+    run(alloc, &without_faults(WIDER, Some("one"), line.as_str()))
+}
+
+#[test]
+fn what_is_not_built_is_told(rt: HostRuntime) -> Result<(), Fail> {
+    for row in WIDER_ENDS.lines() {
+        let mut row = row.split('|');
+        let ran = run_wider(rt.alloc(), cell(&mut row))?;
+        is_as(&rt, &ran.finish, &ran.out, &ran.err, &mut row);
+    }
+    Ok(())
+}
+
+// The only order of the run started these words.
+fn spawned(rt: &impl Abort, report: &Report<NoFault>, words: &[&str]) {
+    let [heard] = report.heard.as_slice() else {
+        return assert!(rt; false);
+    };
+    let Act::Spawn { words: started, .. } = &heard.order.act else {
+        return assert!(rt; false);
+    };
+    assert_eq!(rt; started.len(), words.len());
+    for (word, wanted) in started.as_slice().iter().zip(words) {
+        assert_eq!(rt; word.as_slice(), wanted.as_bytes());
+    }
+}
+
+#[test]
+fn a_line_is_handed_to_the_shell(rt: HostRuntime) -> Result<(), Fail> {
+    let ran = run_wider(rt.alloc(), "line")?;
+    spawned(&rt, &ran.finish.report, &["/bin/sh", "-c", "cp s u"]);
     Ok(())
 }
 
@@ -357,7 +463,7 @@ const REAL_OUTPUT: &str = "llbuild_test.o";
 
 // A target for each way in which a real command can end.
 const REAL: &str =
-    "client: {name: basic}\ntargets: {good: [llbuild_test.o], bad: [a], killed: [b], unknown: [c], missing: [d]}\ncommands:\n  touch: {tool: shell, outputs: [llbuild_test.o], args: [touch, llbuild_test.o]}\n  false: {tool: shell, outputs: [a], args: ['false']}\n  kill: {tool: shell, outputs: [b], args: [sh, -c, 'kill -9 $$']}\n  unknown: {tool: shell, outputs: [c], args: [llbuild_test_of_no_program]}\n  copy: {tool: shell, inputs: [llbuild_test_of_no_source], outputs: [d], args: [cp, s, d]}\n";
+    "client: {name: basic}\ntargets: {good: [llbuild_test.o], bad: [a], killed: [b], unknown: [c], missing: [d], line: [e]}\ncommands:\n  touch: {tool: shell, outputs: [llbuild_test.o], args: [touch, llbuild_test.o]}\n  false: {tool: shell, outputs: [a], args: ['false']}\n  kill: {tool: shell, outputs: [b], args: [sh, -c, 'kill -9 $$']}\n  unknown: {tool: shell, outputs: [c], args: [llbuild_test_of_no_program]}\n  copy: {tool: shell, inputs: [llbuild_test_of_no_source], outputs: [d], args: [cp, s, d]}\n  exit: {tool: shell, outputs: [e], args: exit 3}\n";
 
 // A target of `REAL` a line, the end of a run that builds it, the status, and what is written on `out` and on `err`.
 const REAL_ENDS: &str = "\
@@ -365,7 +471,8 @@ good|Ok|0|[1] touch;ok: 1 started;|
 bad|CommandFailed|1|[1] false;|error: command false ended with status 1;
 killed|CommandFailed|1|[1] kill;|error: command kill was killed;
 unknown|DiskFault|3|[1] unknown;|error: the disk failed;
-missing|MissingInput|1||error: copy needs llbuild_test_of_no_source, which is missing;";
+missing|MissingInput|1||error: copy needs llbuild_test_of_no_source, which is missing;
+line|CommandFailed|1|[1] exit;|error: command exit ended with status 3;";
 
 // A run over real files, and what it wrote.
 #[derive(Drop)]

@@ -16,7 +16,7 @@ use Rattle.outside.specs.View.{DiskView, Told, Tells, Keeps, Stayed}
 use Rattle.outside.specs.declared.order.Ended.{Ended}
 use Rattle.outside.specs.declared.order.Exit.{Exit}
 use Rattle.outside.specs.declared.order.Order.{Order}
-use Rattle.manifest_reader.specs.declared.command.Command.{Command}
+use Rattle.build_manifest.specs.declared.command.Command.{Command}
 use Rattle.build_meaning.specs.Commands.{meaning_of}
 use Rattle.build_meaning.specs.Fresh.{Does}
 use Rattle.build_report.specs.declared.report.Heard.{Heard}

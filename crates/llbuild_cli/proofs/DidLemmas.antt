@@ -1,5 +1,5 @@
 -- What holds of a run by its plan, from what holds of its build.
-use Rattle.std.proofs.Common.{◌≡◌, ◌∙◌, ◌++◌, ◌∷◌, [], ℕ, List, length, refl, sym, ap, subst, inl, inr, arith}
+use Rattle.std.proofs.Common.{◌≡◌, ◌∙◌, ◌++◌, ◌∷◌, [], ℕ, List, length, refl, sym, ap, subst, inl, inr}
 use Rattle.std.specs.Prelude.{Result, Ok, Err}
 use Rattle.file_info.proofs.Lists.{In-either, In-map-back, In-one}
 use Rattle.file_info.specs.Content.{FileVersion}
@@ -21,7 +21,7 @@ use Rattle.llbuild_cli.specs.declared.stop.Stop.TheVariants as stops
 use Rattle.llbuild_cli.specs.MissingInput.{AllReadFirst, StopsAtMissing}
 use Rattle.llbuild_cli.specs.BuildStop.{IsLastFailed, IsBuildStop, IsWritten}
 use Rattle.llbuild_cli.specs.Outcome.{AllDone, AllEnded, AreInStep, AreOrders, HeardWell, IsDone}
-use Rattle.llbuild_cli.specs.Journal.{Journal, Knows, IsOnce, unused}
+use Rattle.llbuild_cli.specs.Journal.{Journal, Knows, IsOnce}
 use Rattle.llbuild_cli.specs.Look.{CameFrom, Looked}
 use Rattle.llbuild_cli.specs.Move.{Moved}
 use Rattle.llbuild_cli.specs.Plan.{Plan}
@@ -35,13 +35,13 @@ use Rattle.llbuild_cli.specs.Start.{AreStarts, AllStarted, IsNextStart}
 use Rattle.llbuild_cli.specs.Stop.{end_of, end_after}
 use Rattle.build_report.specs.Text.{lines_of, summary_text}
 use Rattle.llbuild_cli.proofs.MissingLemmas.{first_looked_on}
-use Rattle.llbuild_cli.proofs.ProgressLemmas.{looked_sources, moved_none, moved_both, moved_stayed}
+use Rattle.llbuild_cli.proofs.ProgressLemmas.{looked_sources, moved_both, moved_stayed}
 use Rattle.llbuild_cli.proofs.JournalLemmas.{sight_in}
 use Rattle.llbuild_cli.proofs.CommandLemmas.{heard_on, heard_same, seen_stands_looked}
 use Rattle.llbuild_cli.proofs.TicketLemmas.{orders_of, each_ended, all_ended}
 
 -- what holds of a build, however it ended
-pub record IsBuilt (answers : Answers) (old new : DiskView) (plan : Plan) (j : Journal) : Type 0 where
+pub record WasBuilt (answers : Answers) (old new : DiskView) (plan : Plan) (j : Journal) : Type 0 where
   pub once : IsOnce j
   pub sources : AreSources plan j.stats
   pub started : AreStarts plan.manifest.commands plan.target.nodes j.starts
@@ -76,7 +76,7 @@ failed_stop disk disk' sink sink' plan j stops.SinkFault why h failed i e = absu
 failed_stop disk disk' sink sink' plan j stops.NoMemory why h failed i e = inr refl
 
 -- what is next and lacks an input ends a build so
-missing_stop : (answers : Answers) (old new : DiskView) (plan : Plan) (j : Journal) (stop : Stop) → IsBuilt answers old new plan j → StopsAtMissing plan.manifest.commands plan.target (Knows j) j.starts j.heard stop
+missing_stop : (answers : Answers) (old new : DiskView) (plan : Plan) (j : Journal) (stop : Stop) → WasBuilt answers old new plan j → StopsAtMissing plan.manifest.commands plan.target (Knows j) j.starts j.heard stop
     → EndsAtMissing plan (report_of (end_of stop) j)
 missing_stop answers old new plan j stop built stops asker node stuck done each =
     elim (stops asker node stuck done (all_ended plan.manifest.commands (report_of (end_of stop) j) built.step built.orders each)) [
@@ -84,7 +84,7 @@ missing_stop answers old new plan j stop built stops asker node stuck done each 
       | inr e ↦ inr (ap (λ (s : Stop). end_of {F = NoFault} s) e)
     ]
 
-why_stop : (answers : Answers) (old new : DiskView) (out out' : SinkView) (plan : Plan) (j : Journal) (end : End NoFault) (stop : Stop) → IsBuilt answers old new plan j
+why_stop : (answers : Answers) (old new : DiskView) (out out' : SinkView) (plan : Plan) (j : Journal) (end : End NoFault) (stop : Stop) → WasBuilt answers old new plan j
     → IsBuildStop old.faults new.faults out.faults out'.faults (Knows j) plan.manifest.commands plan.target j.starts j.heard stop → IsStop (run_of old new out out' (report_of end j)) plan stop
 why_stop answers old new out out' plan j end (stops.CommandFailed command exit) built why = (why.0, each_ended plan.manifest.commands (report_of end j) built.orders why.1)
 why_stop answers old new out out' plan j end (stops.MissingInput asker node) built why = (why.0, why.1, each_ended plan.manifest.commands (report_of end j) built.orders why.2)
@@ -110,7 +110,7 @@ not_ok stops.NoMemory e = cc e
 
 -- a build that stopped
 pub did_stop : (answers : Answers) (old new : DiskView) (out out' : SinkView) (plan : Plan) (j : Journal) (r : Result (Unit {0}) Stop) (stop : Stop) → r ≡ Err stop
-    → IsBuilt answers old new plan j
+    → WasBuilt answers old new plan j
     → StopsAtMissing plan.manifest.commands plan.target (Knows j) j.starts j.heard stop
     → WroteStopped (IsNextStart plan.manifest.commands plan.target.nodes j.starts) (AllStarted plan.manifest.commands plan.target.nodes j.starts) out out' j.starts stop
     → IsBuildStop old.faults new.faults out.faults out'.faults (Knows j) plan.manifest.commands plan.target j.starts j.heard stop
@@ -134,7 +134,7 @@ did_stop answers old new out out' plan j r stop same built missing wrote why =
 
 -- a build that succeeded
 pub did_all : (answers : Answers) (old new : DiskView) (out out' : SinkView) (plan : Plan) (j : Journal) (done : Unit {0})
-    → IsBuilt answers old new plan j
+    → WasBuilt answers old new plan j
     → ((m : List FileVersion) → Tells new m → AreFresh answers.does m (run_of old new out out' (report_of ends.Ok j)) plan)
     → AllStarted plan.manifest.commands plan.target.nodes j.starts → WereRead (Knows j) plan.target.nodes → AllDone j.heard → AllEnded j.starts j.heard
     → ((asker node : List ℕ) → IsStuckAt plan (report_of ends.Ok j) asker node → ⊥)
@@ -174,30 +174,9 @@ sources_more plan asked a b was came once is settled = record {
   ];
 }
 
-pub no_sources : (plan : Plan) (stats : List StatSeen) → stats ≡ [] → AreSources plan stats
-no_sources plan stats none = subst (λ (ss : List StatSeen). AreSources plan ss) (sym none) (record { once = tt; free = λ s i. absurd i; asked = λ s i. absurd i })
-
-unused_knows : (p : List ℕ) (i : Info) → Knows unused p i → ⊥
-unused_knows p i (inl s) = s
-unused_knows p i (inr w) = w.1.0
-
--- nothing was built
-pub nothing_built : (answers : Answers) (world : DiskView) (plan : Plan) (j : Journal) → j ≡ unused → IsBuilt answers world world plan j
-nothing_built answers world plan j same = subst (λ (x : Journal). IsBuilt answers world world plan x) (sym same) (record {
-  once = record { single = λ p i k a b. absurd (unused_knows p i a); sources = tt };
-  sources = no_sources plan [] refl;
-  started = record { distinct = tt; needed = λ s i. absurd i };
-  step = record { rest = []; names = refl; few = omega arith };
-  orders = record { each = λ h i. absurd i; tickets = λ k h e. cc e };
-  heard = record { given = λ h i. absurd i; lawful = λ m t h i. absurd i };
-  stood = λ t p i k. absurd (unused_knows p i k);
-  read = record { started = λ s i. absurd i; orders = λ h i. absurd i };
-  apart = moved_none world;
-})
-
 -- the nodes of the target were looked at
-pub finished : (answers : Answers) (old mid new : DiskView) (plan : Plan) (a b : Journal) → IsBuilt answers old mid plan a → Stayed mid new → Looked new (IsInput plan.target.nodes) a b → IsOnce b
-    → ((p : List ℕ) → IsInput plan.target.nodes p → IsMade plan.manifest.commands p → (i : Info) × Knows a p i) → IsBuilt answers old new plan b
+pub finished : (answers : Answers) (old mid new : DiskView) (plan : Plan) (a b : Journal) → WasBuilt answers old mid plan a → Stayed mid new → Looked new (IsInput plan.target.nodes) a b → IsOnce b
+    → ((p : List ℕ) → IsInput plan.target.nodes p → IsMade plan.manifest.commands p → (i : Info) × Knows a p i) → WasBuilt answers old new plan b
 finished answers old mid new plan a b built stayed looked once settled = record {
   once = once;
   sources = sources_more plan (IsInput plan.target.nodes) a b built.sources (looked_sources looked) once (λ p i. inr i) settled;

@@ -10,14 +10,14 @@ use Rattle.file_info.specs.declared.node.NodeName.TheVariants.{Path}
 use Rattle.file_info.specs.declared.node.Read.{Read}
 use Rattle.file_info.specs.declared.node.Reading.{Reading}
 use Rattle.file_info.specs.declared.node.Reading.TheVariants as readings
-use Rattle.manifest_reader.specs.declared.command.Input.{Input}
-use Rattle.manifest_reader.specs.declared.command.InputForm.{InputForm}
-use Rattle.manifest_reader.specs.declared.command.InputForm.TheVariants.{File}
-use Rattle.manifest_reader.specs.FileManifest.{IsFileInput}
+use Rattle.build_manifest.specs.declared.command.Input.{Input}
+use Rattle.build_manifest.specs.declared.command.InputForm.{InputForm}
+use Rattle.build_manifest.specs.declared.command.InputForm.TheVariants.{File}
 use Rattle.outside.specs.OrderForm.{IsReadOf, AreReadsOf}
 use Rattle.outside.specs.Meaning.{NodeKey}
 use Rattle.build_meaning.specs.Commands.{key_of, key_in}
 use Rattle.build_meaning.specs.Fresh.{nodes_read, as_read}
+use Rattle.build_plan.specs.Built.{IsFileInput}
 use Rattle.llbuild_cli.specs.declared.stop.Stop.{Stop}
 use Rattle.llbuild_cli.specs.declared.stop.Stop.TheVariants.{CommandFailed, MissingInput, DiskFault, SinkFault, NoMemory}
 use Rattle.llbuild_cli.specs.Input.{SeenAs, IsRead, AreRead}

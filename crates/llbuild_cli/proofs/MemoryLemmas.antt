@@ -6,8 +6,6 @@ use Rattle.file_info.specs.Content.{Content, Absent, FileVersion, content, node_
 use Rattle.file_info.specs.Lists.{In}
 use Rattle.file_info.specs.declared.info.Info.{Info}
 use Rattle.file_info.specs.declared.info.Form.TheVariants.{Follow}
-use Rattle.outside.specs.declared.disk.FileBytes.{FileBytes}
-use Rattle.outside.specs.declared.disk.FileBytes.TheVariants.{Missing, NotFile, TooLong, Bytes}
 use Rattle.outside.specs.declared.order.Exit.{Exit}
 use Rattle.outside.specs.declared.order.Order.{Order}
 use Rattle.outside.specs.declared.world.NoFault.{NoFault}
@@ -19,16 +17,10 @@ use Rattle.memory_world.specs.Memory.{Memory, map_of, view_of}
 use Rattle.memory_world.specs.Sinks.{Written}
 use Rattle.memory_world.specs.Toy.{ToyDoes, toy-function}
 use Rattle.memory_world.proofs.LogLemmas.{standing-told, last-in}
-use Rattle.manifest_reader.specs.declared.command.Command.{Command}
-use Rattle.manifest_reader.specs.declared.command.Input.{Input}
-use Rattle.manifest_reader.specs.declared.command.TargetEntry.{TargetEntry}
-use Rattle.manifest_reader.specs.declared.error.LoadError.{LoadError}
-use Rattle.manifest_reader.specs.Load.{loaded}
-use Rattle.manifest_reader.specs.Manifest.{ManifestLists}
-use Rattle.manifest_reader.specs.Places.{target_named}
-use Rattle.manifest_reader.proofs.ManifestLemmas.{loaded-served}
+use Rattle.build_manifest.specs.declared.command.Command.{Command}
+use Rattle.build_manifest.specs.declared.command.Input.{Input}
 use Rattle.build_meaning.specs.Fresh.{Does, Sights, IsMade, Fresh, source, made}
-use Rattle.build_meaning.specs.Unique.{HasOneMaker, SawOnce}
+use Rattle.build_meaning.specs.Unique.{SawOnce}
 use Rattle.build_meaning.proofs.OrderlyLemmas.{orderly}
 use Rattle.build_meaning.proofs.FreshLemmas.{IsDetermined, Fresh-unique}
 use Rattle.llbuild_cli.specs.declared.refusal.Refusal.{Refusal}
@@ -37,9 +29,8 @@ use Rattle.build_report.specs.declared.report.End.TheVariants as ends
 use Rattle.build_report.specs.declared.report.Report.{Report}
 use Rattle.llbuild_cli.specs.declared.stop.Stop.{Stop}
 use Rattle.llbuild_cli.specs.declared.stop.Stop.TheVariants as stops
-use Rattle.llbuild_cli.specs.declared.words.Job.{Job}
 use Rattle.llbuild_cli.specs.InMemory.{FreshInMemory, FreshOf, files_of, seen_in}
-use Rattle.llbuild_cli.specs.Plan.{Gave, Plan, plan_of, plan_loaded, plan_named, manifest_max, refused_end}
+use Rattle.llbuild_cli.specs.Plan.{Gave, plan_of, manifest_max, refused_end}
 use Rattle.llbuild_cli.specs.Run.{Planned, Served, Wrote, answers_of, run_of}
 use Rattle.llbuild_cli.specs.Sight.{sights_of}
 use Rattle.llbuild_cli.specs.Stop.{end_of, end_after}
@@ -80,24 +71,6 @@ files_once ws p i j a b = file_at ws p i a ∙ sym (file_at ws p j b)
 toy_determined : IsDetermined ToyDoes
 toy_determined s d o q a b = (toy-function s d [] [] o q a b (λ p x y h. absurd h)).1
 
--- a plan's commands make each path once
-plan_loads : (job : Job) (answer : FileBytes) (plan : Plan) → plan_of job answer ≡ Ok plan → (bytes : List ℕ) × (loaded bytes ≡ Ok plan.manifest)
-plan_loads job Missing plan e = cc e
-plan_loads job NotFile plan e = cc e
-plan_loads job TooLong plan e = cc e
-plan_loads job (Bytes bytes) plan e = load (loaded bytes) refl e
-  where
-    name : (manifest : ManifestLists) (o : Option TargetEntry) → plan_named manifest job.target o ≡ Ok plan → manifest ≡ plan.manifest
-    name manifest None f = cc f
-    name manifest (Some target) f = (let same : record { manifest = manifest; target = target } ≡ plan = cc f in ap (λ (z : Plan). z.manifest) same)
-
-    load : (r : Result ManifestLists LoadError) → loaded bytes ≡ r → plan_loaded job.target r ≡ Ok plan → (b : List ℕ) × (loaded b ≡ Ok plan.manifest)
-    load (Err error) is f = cc f
-    load (Ok manifest) is f = (bytes, is ∙ ap Ok (name manifest (target_named manifest.targets job.target) f))
-
-one_maker : (job : Job) (answer : FileBytes) (plan : Plan) → plan_of job answer ≡ Ok plan → HasOneMaker plan.manifest.commands
-one_maker job answer plan e = (let (bytes, is) = plan_loads job answer plan e in (orderly plan.manifest (loaded-served bytes plan.manifest is)).makers)
-
 -- what is seen of a run that left these files, and its end
 abbrev pub PlannedOn : Gave → (DiskView → Order → Exit → Type 0) → Memory → Memory → SinkView → SinkView → Report NoFault → List (List ℕ) → Type 0
 PlannedOn gave ended old new out out' report words = Planned (answers_of ToyDoes ended gave) (run_of (view_of old) (view_of new) out out' report) words
@@ -136,7 +109,7 @@ fresh_planned gave ended old new out out' report words told tells ok p =
           let exit = standing new.writes path Follow in
           let fresh : Fresh ToyDoes n cs (files_of old.writes) path exit =
           Fresh-on same (there i h) (subst (λ (z : Content). Fresh ToyDoes m cs (sights_of report.stats) path z) (after path) (all.fresh i h)) in (
-            (λ other. Fresh-unique toy_determined (one_maker p.is.asked.job p.is.asked.answer plan p.is.is) (files_once old.writes) other exit fresh),
+            (λ other. Fresh-unique toy_determined (orderly plan.manifest p.is.kept).makers (files_once old.writes) other exit fresh),
             (λ e. subst (λ (z : Content). FreshOf old.writes plan path z) (sym e) fresh),
           );
       there = there;
@@ -147,6 +120,7 @@ refused_not_ok (refusals.Usage fault) e = cc e
 refused_not_ok (refusals.NoFile path) e = cc e
 refused_not_ok (refusals.Manifest error) e = cc e
 refused_not_ok (refusals.UnknownTarget name) e = cc e
+refused_not_ok (refusals.NotBuilt asker) e = cc e
 refused_not_ok refusals.DiskFault e = cc e
 refused_not_ok refusals.NoMemory e = cc e
 

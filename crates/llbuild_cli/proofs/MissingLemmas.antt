@@ -7,9 +7,9 @@ use Rattle.file_info.specs.declared.info.Info.TheVariants.{Missing}
 use Rattle.file_info.specs.declared.node.NodeName.{NodeName}
 use Rattle.file_info.specs.declared.node.NodeName.TheVariants.{Path}
 use Rattle.file_info.specs.declared.node.Read.{Read}
-use Rattle.manifest_reader.specs.declared.command.Command.{Command}
-use Rattle.manifest_reader.specs.declared.command.Input.{Input}
-use Rattle.manifest_reader.specs.declared.command.TargetEntry.{TargetEntry}
+use Rattle.build_manifest.specs.declared.command.Command.{Command}
+use Rattle.build_manifest.specs.declared.command.Input.{Input}
+use Rattle.build_manifest.specs.declared.command.TargetEntry.{TargetEntry}
 use Rattle.outside.specs.declared.order.Ended.{Ended}
 use Rattle.outside.specs.declared.order.Exit.{Exit}
 use Rattle.outside.specs.declared.order.Order.{Order}

@@ -7,13 +7,13 @@ use Rattle.file_info.specs.Content.{node_text}
 use Rattle.file_info.specs.Lists.{In}
 use Rattle.file_info.specs.declared.info.Info.{Info}
 use Rattle.file_info.specs.declared.node.NodeName.TheVariants.{Path}
-use Rattle.manifest_reader.specs.declared.command.Command.{Command}
-use Rattle.manifest_reader.specs.declared.command.Input.{Input}
-use Rattle.manifest_reader.specs.FileManifest.{IsFileInput}
+use Rattle.build_manifest.specs.declared.command.Command.{Command}
+use Rattle.build_manifest.specs.declared.command.Input.{Input}
 use Rattle.outside.specs.OrderForm.{paths_of}
 use Rattle.build_meaning.specs.Fresh.{Does, IsMade}
 use Rattle.build_meaning.specs.Need.{IsNeeded, wants, needs, AreMarks}
 use Rattle.build_meaning.specs.Orderly.{AreOrderly}
+use Rattle.build_plan.specs.Built.{IsBuiltAt, IsFileInput}
 use Rattle.build_meaning.proofs.OrderlyLemmas.{made_path, one_place}
 use Rattle.llbuild_cli.specs.CommandRun.{IsInput, IsOutput}
 use Rattle.llbuild_cli.specs.Stands.{Stands}
@@ -42,12 +42,12 @@ made_once commands place c p orderly at_place o h =
 
 -- what is made of the inputs of a needed command was made before it
 pub inputs_settled : {does : Does} {commands : List Command} {marks : List Bool} {place : ℕ} {w : DiskView} {a : Journal}
-    (wanted : List Input) → AreOrderly commands → AreMarks commands wanted marks → Stands does commands marks place w a
-    → (c : Command) → slice_get commands place ≡ Some c → slice_get marks place ≡ Some true → ((i : Input) → In i c.inputs → IsFileInput i)
+    (wanted : List Input) → AreMarks commands wanted marks → Stands does commands marks place w a
+    → (c : Command) → slice_get commands place ≡ Some c → slice_get marks place ≡ Some true → IsBuiltAt commands place c
     → (p : List ℕ) → IsInput c.inputs p → IsMade commands p → (i : Info) × Knows a p i
-inputs_settled {commands} {marks} {place} wanted orderly are old c at_place marked files p is h =
+inputs_settled {commands} {marks} {place} wanted are old c at_place marked built p is h =
     let i = is.0 in
-    let file = files i is.1.0 in
+    let file = built.plain.inputs i is.1.0 in
     let node : i.node ≡ Path p = file.node.is ∙ ap Path (sym (is.1.1 ∙ ap node_text file.node.is)) in
     let (j, at_j) = In-index h.by commands h.named in
     let output : In i.node h.by.outputs = subst (λ (n : _). In n h.by.outputs) (sym node) (made_path h.by p h.output) in
@@ -55,7 +55,7 @@ inputs_settled {commands} {marks} {place} wanted orderly are old c at_place mark
     let marked_j = (are.each j h.by at_j).1 maker in
     elim (less_or_not j place) [
       | inl l ↦ old.done j h.by p l marked_j at_j h.output
-      | inr l ↦ absurd (orderly.inputs place c i at_place is.1.0
+      | inr l ↦ absurd (built.earlier i is.1.0
           (subst (λ (q : List ℕ). IsMade (drop place commands) q) is.1.1
           (record { by = h.by; named = In-drop-get commands place j h.by at_j l; output = h.output })))
     ]

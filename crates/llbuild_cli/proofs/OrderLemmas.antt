@@ -1,6 +1,6 @@
 -- What one order does.
 use Rattle.std.proofs.Common.{◌≡◌, ℕ, List, [], ◌∷◌, ◌++◌, map, refl, sym, ◌∙◌, ap, inl, inr, subst}
-use Rattle.std.specs.Prelude.{false, true}
+use Rattle.std.specs.Prelude.{Bool, false, true, Option}
 use Rattle.file_info.proofs.Lists.{In-one, map-same}
 use Rattle.file_info.specs.Content.{Content, FileVersion, content, node_text, read_contents}
 use Rattle.file_info.specs.Lists.{In}
@@ -13,19 +13,24 @@ use Rattle.file_info.specs.declared.node.NodeName.TheVariants.{Path}
 use Rattle.file_info.specs.declared.node.Read.{Read}
 use Rattle.file_info.specs.declared.node.Reading.{Reading}
 use Rattle.file_info.specs.declared.node.Reading.TheVariants.{File}
-use Rattle.manifest_reader.specs.declared.command.Command.{Command}
-use Rattle.manifest_reader.specs.declared.command.Input.{Input}
-use Rattle.manifest_reader.specs.declared.command.InputForm.{InputForm}
-use Rattle.manifest_reader.specs.declared.command.InputForm.TheVariants.{File as AsFile}
-use Rattle.manifest_reader.specs.FileManifest.{IsFileInput, IsServed}
+use Rattle.build_manifest.specs.declared.command.Command.{Command}
+use Rattle.build_manifest.specs.declared.command.Input.{Input}
+use Rattle.build_manifest.specs.declared.command.InputForm.{InputForm}
+use Rattle.build_manifest.specs.declared.command.InputForm.TheVariants.{File as AsFile}
+use Rattle.build_manifest.specs.declared.command.Args.{Args}
+use Rattle.build_manifest.specs.declared.command.Args.TheVariants.{Absent, Words, Line}
+use Rattle.build_manifest.specs.declared.command.Tool.{Tool}
+use Rattle.outside.specs.declared.order.EnvText.{EnvText}
 use Rattle.outside.specs.declared.order.Order.{Order}
 use Rattle.outside.specs.declared.order.Act.{Act}
 use Rattle.outside.specs.declared.order.Act.TheVariants.{Spawn}
 use Rattle.outside.specs.OrderForm.{IsReadOf, AreReadsOf, IsActOf, IsFormed, deps_of, paths_of}
 use Rattle.outside.specs.Meaning.{NodeKey}
 use Rattle.outside.specs.Outcome.{IsWritten, StandsAs, Unchanged, IsFound, found_contents, contents_at, output_form, form_of}
-use Rattle.build_meaning.specs.Commands.{key_in, key_of, meaning_of}
+use Rattle.build_meaning.specs.Commands.{key_in, key_of, meaning_of, program_of, shell_of, tool_in, variable_of}
 use Rattle.build_meaning.specs.Fresh.{Does}
+use Rattle.build_plan.specs.Built.{IsFileInput, IsPlain}
+use Rattle.tool_commands.specs.Program.{words_of}
 use Rattle.llbuild_cli.specs.CommandRun.{IsInput, IsOutput, IsOrderFor, ReadsStand, DidLaw, contents_made}
 
 -- the one that was taken out is the one that was there
@@ -43,26 +48,44 @@ written_one orders order c p one outputs deps w =
       | inr d ↦ absurd (subst (In p) (ap (λ (z : Order). z.deps) same ∙ deps) d)
     ]
 
-pub no_deps : (c : Command) → IsServed c → deps_of (meaning_of c).tool ≡ []
-no_deps c served = ap (λ (d : Command). deps_of (meaning_of d).tool) served.is
+-- what a plain command hands its tool
+tool_is : (c : Command) → IsPlain c → (meaning_of c).tool ≡ program_of c.args [] true []
+tool_is c plain =
+    ap (λ (t : Tool). tool_in t c) plain.tool
+    ∙ ap (λ (s : Option (List ℕ)). shell_of s c.args (map variable_of c.env) c.inherit_env c.deps) plain.signature
+    ∙ rw (plain.env, plain.inherit_env, plain.deps) refl
 
-spawns : (c : Command) (act : Act) → (served : IsServed c) → IsActOf (meaning_of c).tool act → act ≡ Spawn served.words [] true false
-spawns c act served is = subst (λ (d : Command). IsActOf (meaning_of d).tool act) served.is is
+program_deps : (args : Args) (env : List EnvText) (inherit : Bool) (deps : List (List ℕ)) → deps_of (program_of args env inherit deps) ≡ deps
+program_deps Absent env inherit deps = refl
+program_deps (Words words) env inherit deps = refl
+program_deps (Line line) env inherit deps = refl
+
+program_spawns : (args : Args) (env : List EnvText) (inherit : Bool) (deps : List (List ℕ)) (act : Act)
+    → IsActOf (program_of args env inherit deps) act → act ≡ Spawn (words_of args) env inherit false
+program_spawns Absent env inherit deps act is = is
+program_spawns (Words words) env inherit deps act is = is
+program_spawns (Line line) env inherit deps act is = is
+
+pub no_deps : (c : Command) → IsPlain c → deps_of (meaning_of c).tool ≡ []
+no_deps c plain = ap deps_of (tool_is c plain) ∙ program_deps c.args [] true []
+
+spawns : (c : Command) (act : Act) → IsPlain c → IsActOf (meaning_of c).tool act → act ≡ Spawn (words_of c.args) [] true false
+spawns c act plain is = program_spawns c.args [] true [] act (subst (λ t. IsActOf t act) (tool_is c plain) is)
 
 followed : (order : Order) (p : List ℕ) (words : List (List ℕ)) → order.act ≡ Spawn words [] true false → order.links ≡ [] → output_form order p ≡ Follow
 followed order p words act links = rw (act, links) refl
 
 -- what the law gives for the order, it gives for the command
 pub did_step : (does : Does) (m : List FileVersion) (after : List ℕ → Form → Info) (c : Command) (ticket : ℕ) (reads : List Read) (order : Order)
-    → IsServed c → IsOrderFor c ticket reads order
+    → IsPlain c → IsOrderFor c ticket reads order
     → (IsFormed order → Unchanged after order → (w : List (List ℕ)) → IsFound m after order.deps w
     → does order.signature (read_contents m order.reads) (found_contents m after order w) (contents_at m after order))
     → Unchanged after order → DidLaw does m after c reads
-did_step does m after c ticket reads order served is law unchanged =
-    let deps : order.deps ≡ [] = is.is.deps ∙ no_deps c served in
+did_step does m after c ticket reads order plain is law unchanged =
+    let deps : order.deps ≡ [] = is.is.deps ∙ no_deps c plain in
     let found : IsFound m after order.deps [] = subst (λ (d : List (List ℕ)). IsFound m after d []) (sym deps) refl in
     let did = law (record { meaning = meaning_of c; is = is.is }) unchanged [] found in
-    let form = λ (p : List ℕ). followed order p served.words (spawns c order.act served is.is.act) is.is.links in
+    let form = λ (p : List ℕ). followed order p (words_of c.args) (spawns c order.act plain is.is.act) is.is.links in
     let outs : contents_at m after order ≡ contents_made m after c =
     map-same (λ (p : List ℕ). content m p (after p (output_form order p))) (λ (p : List ℕ). content m p (after p Follow)) order.outputs
     (λ p i. ap (λ (f : Form). content m p (after p f)) (form p))

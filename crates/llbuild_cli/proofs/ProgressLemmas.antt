@@ -36,9 +36,6 @@ stayed_both f s = record {
 pub stayed_at : {a b : DiskView} → Stayed a b → Told b → (p : List ℕ) (f : Form) → b.at p f ≡ a.at p f
 stayed_at s t p f = ap (λ (h : List ℕ → Form → Info). h p f) (s.same t)
 
-pub moved_none : {written : List ℕ → Type 0} (w : DiskView) → Moved written w w
-moved_none w = record { keeps = record { infos = λ t. t; contents = λ m t. t }; same = λ t p f h. refl; later = omega arith }
-
 pub moved_stayed : {written : List ℕ → Type 0} {a b : DiskView} → Stayed a b → Moved written a b
 moved_stayed s = record { keeps = s.keeps; same = λ t p f n. stayed_at s t p f; later = s.later }
 

@@ -6,7 +6,7 @@ use Rattle.file_info.specs.Lists.{In}
 use Rattle.file_info.specs.declared.info.Info.{Info}
 use Rattle.file_info.specs.declared.info.Form.TheVariants.{Follow}
 use Rattle.outside.specs.View.{DiskView, Told}
-use Rattle.manifest_reader.specs.declared.command.Command.{Command}
+use Rattle.build_manifest.specs.declared.command.Command.{Command}
 use Rattle.build_meaning.proofs.FreshLemmas.{Fresh-more}
 use Rattle.build_meaning.specs.Fresh.{Does, Sights, IsMade, source}
 use Rattle.build_report.specs.declared.report.StatSeen.{StatSeen}

@@ -3,9 +3,9 @@ use Rattle.std.proofs.Common.{◌≡◌, ◌≤◌, ℕ, zero, suc, ◌+◌, Boo
 use Rattle.std.specs.Prelude.{slice_get, Some}
 use Rattle.file_info.proofs.Lists.{In-get, In-index, get-map, get-take}
 use Rattle.file_info.specs.Lists.{In, IsDistinct}
-use Rattle.manifest_reader.specs.declared.command.Command.{Command}
-use Rattle.manifest_reader.specs.declared.command.Input.{Input}
-use Rattle.build_meaning.specs.Need.{IsNeeded, wants, needs, AreMarks}
+use Rattle.build_manifest.specs.declared.command.Command.{Command}
+use Rattle.build_manifest.specs.declared.command.Input.{Input}
+use Rattle.build_meaning.specs.Need.{IsNeeded, wants, needs, follows, AreMarks}
 use Rattle.build_meaning.specs.Orderly.{AreOrderly}
 use Rattle.build_meaning.proofs.OrderlyLemmas.{one_place}
 use Rattle.build_report.specs.declared.report.Start.{Start}
@@ -141,6 +141,7 @@ was_started commands wanted marks place c are i needed =
 needed_in : {commands : List Command} {wanted : List Input} {c : Command} → IsNeeded commands wanted c → In c commands
 needed_in (wants i named wanted output) = named
 needed_in (needs user i named by input output) = named
+needed_in (follows user i named by input output) = named
 
 pub all_started : (commands : List Command) (wanted : List Input) (marks : List Bool) → AreMarks commands wanted marks → AllStarted commands wanted (starts_of commands marks)
 all_started commands wanted marks are c needed =

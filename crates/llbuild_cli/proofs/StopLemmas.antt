@@ -5,9 +5,9 @@ use Rattle.std.proofs.lemmas.List.{map-append}
 use Rattle.file_info.proofs.Lists.{In-either, In-left, In-one}
 use Rattle.file_info.specs.Lists.{In}
 use Rattle.file_info.specs.declared.info.Info.{Info}
-use Rattle.manifest_reader.specs.declared.command.Command.{Command}
-use Rattle.manifest_reader.specs.declared.command.Input.{Input}
-use Rattle.manifest_reader.specs.declared.command.TargetEntry.{TargetEntry}
+use Rattle.build_manifest.specs.declared.command.Command.{Command}
+use Rattle.build_manifest.specs.declared.command.Input.{Input}
+use Rattle.build_manifest.specs.declared.command.TargetEntry.{TargetEntry}
 use Rattle.outside.specs.declared.order.Ended.{Ended}
 use Rattle.outside.specs.declared.order.Exit.{Exit}
 use Rattle.outside.specs.declared.order.Order.{Order}

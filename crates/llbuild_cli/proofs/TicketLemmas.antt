@@ -6,7 +6,7 @@ use Rattle.std.proofs.lemmas.Option.{slice_get_within}
 use Rattle.file_info.proofs.Lists.{In-get, In-index, get-append, get-map, get-map-back}
 use Rattle.file_info.specs.Lists.{IsDistinct}
 use Rattle.outside.specs.declared.world.NoFault.{NoFault}
-use Rattle.manifest_reader.specs.declared.command.Command.{Command}
+use Rattle.build_manifest.specs.declared.command.Command.{Command}
 use Rattle.build_report.specs.declared.report.Heard.{Heard}
 use Rattle.build_report.specs.declared.report.Report.{Report}
 use Rattle.build_report.specs.declared.report.Start.{Start}

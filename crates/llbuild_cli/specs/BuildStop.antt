@@ -5,8 +5,8 @@ use Rattle.file_info.specs.declared.info.Info.{Info}
 use Rattle.outside.specs.View.{Rose, Grew, SinkView}
 use Rattle.outside.specs.OrderForm.{IsOrderOf}
 use Rattle.outside.specs.declared.order.Exit.{Exit}
-use Rattle.manifest_reader.specs.declared.command.Command.{Command}
-use Rattle.manifest_reader.specs.declared.command.TargetEntry.{TargetEntry}
+use Rattle.build_manifest.specs.declared.command.Command.{Command}
+use Rattle.build_manifest.specs.declared.command.TargetEntry.{TargetEntry}
 use Rattle.build_meaning.specs.Commands.{meaning_of}
 use Rattle.build_report.specs.declared.report.Heard.{Heard}
 use Rattle.build_report.specs.declared.report.Outcome.TheVariants.{Failed}

@@ -15,11 +15,12 @@ use Rattle.outside.specs.View.{DiskView, Told, Tells, Keeps}
 use Rattle.outside.specs.declared.order.Ended.{Ended}
 use Rattle.outside.specs.declared.order.Exit.{Exit}
 use Rattle.outside.specs.declared.order.Order.{Order}
-use Rattle.manifest_reader.specs.declared.command.Command.{Command}
-use Rattle.manifest_reader.specs.declared.command.Input.{Input}
-use Rattle.manifest_reader.specs.FileManifest.{IsServed}
+use Rattle.build_manifest.specs.declared.command.Command.{Command}
+use Rattle.build_manifest.specs.declared.command.Input.{Input}
+use Rattle.build_manifest.specs.Command.{IsCommand}
 use Rattle.build_meaning.specs.Commands.{meaning_of}
 use Rattle.build_meaning.specs.Fresh.{Does}
+use Rattle.build_plan.specs.Built.{IsPlain}
 use Rattle.build_report.specs.declared.report.Heard.{Heard}
 use Rattle.llbuild_cli.specs.Journal.{Journal, Knows}
 use Rattle.llbuild_cli.specs.Look.{Looked}
@@ -38,9 +39,10 @@ IsOutput c p = In p (paths_of c.outputs)
 abbrev pub SeenStands : DiskView → Journal → Type 0
 SeenStands world seen = Told world → (p : List ℕ) (i : Info) → Knows seen p i → world.at p Follow ≡ i
 
--- a shell command over files with distinct outputs, none of which it reads
+-- a command of a manifest, plain, with distinct outputs, none of which it reads
 pub record IsSound (c : Command) : Type 0 where
-  pub served : IsServed c
+  pub command : IsCommand c
+  pub plain : IsPlain c
   pub distinct : IsDistinct (paths_of c.outputs)
   pub apart : (p : List ℕ) → IsInput c.inputs p → IsOutput c p → ⊥
 

@@ -10,7 +10,7 @@ use Rattle.memory_world.specs.Log.{standing, last_of, info_of}
 use Rattle.memory_world.specs.Memory.{map_of}
 use Rattle.memory_world.specs.Sinks.{Written}
 use Rattle.memory_world.specs.Toy.{ToyDoes}
-use Rattle.manifest_reader.specs.declared.command.Input.{Input}
+use Rattle.build_manifest.specs.declared.command.Input.{Input}
 use Rattle.build_meaning.specs.Fresh.{Sights, Fresh}
 use Rattle.llbuild_cli.specs.declared.words.Job.{Job}
 use Rattle.llbuild_cli.specs.Plan.{Plan, plan_of, manifest_max}

@@ -1,11 +1,17 @@
 -- What is read of inputs.
 use Rattle.std.specs.Prelude.{◌≡◌, ℕ, List, [], ◌∷◌, ◌++◌}
+use Rattle.file_info.specs.Lists.{In}
 use Rattle.file_info.specs.declared.info.Info.{Info}
 use Rattle.file_info.specs.declared.info.Info.TheVariants.{Missing}
 use Rattle.file_info.specs.declared.node.NodeName.TheVariants.{Path}
 use Rattle.file_info.specs.declared.node.Read.{Read}
 use Rattle.file_info.specs.declared.node.Reading.TheVariants.{File}
-use Rattle.manifest_reader.specs.declared.command.Input.{Input}
+use Rattle.build_manifest.specs.declared.command.Input.{Input}
+use Rattle.build_plan.specs.Built.{IsFileInput}
+
+-- each input is a file, read as one
+abbrev pub AreFileInputs : List Input → Type 0
+AreFileInputs inputs = (i : Input) → In i inputs → IsFileInput i
 
 -- this file information was seen at the path of the input
 pub record SeenAs (seen : List ℕ → Info → Type 0) (input : Input) (info : Info) : Type 0 where

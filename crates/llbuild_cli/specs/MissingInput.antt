@@ -2,9 +2,9 @@
 use Rattle.std.specs.Prelude.{◌≡◌, ◌⊎◌, ℕ, List, ◌∷◌, ◌++◌}
 use Rattle.file_info.specs.Lists.{In}
 use Rattle.file_info.specs.declared.info.Info.{Info}
-use Rattle.manifest_reader.specs.declared.command.Command.{Command}
-use Rattle.manifest_reader.specs.declared.command.Input.{Input}
-use Rattle.manifest_reader.specs.declared.command.TargetEntry.{TargetEntry}
+use Rattle.build_manifest.specs.declared.command.Command.{Command}
+use Rattle.build_manifest.specs.declared.command.Input.{Input}
+use Rattle.build_manifest.specs.declared.command.TargetEntry.{TargetEntry}
 use Rattle.build_meaning.specs.Need.{IsNeeded}
 use Rattle.build_report.specs.declared.report.Heard.{Heard}
 use Rattle.build_report.specs.declared.report.Start.{Start}

@@ -9,7 +9,7 @@ use Rattle.outside.specs.View.{DiskView, Told, Tells, Keeps}
 use Rattle.outside.specs.declared.order.Order.{Order}
 use Rattle.outside.specs.declared.order.Exit.{Exit}
 use Rattle.outside.specs.declared.order.Exit.TheVariants.{Code}
-use Rattle.manifest_reader.specs.declared.command.Command.{Command}
+use Rattle.build_manifest.specs.declared.command.Command.{Command}
 use Rattle.build_meaning.specs.Commands.{meaning_of}
 use Rattle.build_meaning.specs.Fresh.{Does}
 use Rattle.build_report.specs.declared.report.Heard.{Heard}

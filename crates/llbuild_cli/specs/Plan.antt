@@ -7,12 +7,13 @@ use Rattle.outside.specs.FileRead.{FitsInfo, bytes_of}
 use Rattle.outside.specs.declared.disk.FileBytes.{FileBytes}
 use Rattle.outside.specs.declared.disk.FileBytes.TheVariants.{Missing, NotFile, TooLong, Bytes}
 use Rattle.yaml_profile.specs.declared.error.YamlError.TheVariants as yaml
-use Rattle.manifest_reader.specs.declared.command.TargetEntry.{TargetEntry}
+use Rattle.build_manifest.specs.declared.command.TargetEntry.{TargetEntry}
 use Rattle.manifest_reader.specs.declared.error.LoadError.{LoadError}
 use Rattle.manifest_reader.specs.declared.error.LoadError.TheVariants as load
 use Rattle.manifest_reader.specs.Load.{loaded}
-use Rattle.manifest_reader.specs.Manifest.{ManifestLists}
-use Rattle.manifest_reader.specs.Places.{target_named}
+use Rattle.build_manifest.specs.Manifest.{ManifestLists, IsManifest}
+use Rattle.build_manifest.specs.Places.{target_named}
+use Rattle.build_plan.specs.Built.{IsBuilt, IsAsker}
 use Rattle.llbuild_cli.specs.declared.refusal.Refusal.{Refusal}
 use Rattle.llbuild_cli.specs.declared.refusal.Refusal.TheVariants as refusals
 use Rattle.build_report.specs.declared.report.End.{End}
@@ -65,10 +66,20 @@ pub record FileAnswer (gave : Gave) (old new : DiskView) (words : List (List ℕ
   pub answer : FileBytes
   pub read : IsAnswer gave old new job.file answer
 
--- this is the plan of the words, by what was read of FILE
+-- this is the plan of the words, by what was read of FILE: its manifest keeps what every manifest does, and all that its target
+-- needs is built today
 pub record IsPlan (gave : Gave) (old new : DiskView) (words : List (List ℕ)) (plan : Plan) : Type 0 where
   pub asked : FileAnswer gave old new words
   pub is : plan_of asked.job asked.answer ≡ Ok plan
+  pub kept : IsManifest plan.manifest
+  pub built : IsBuilt plan.manifest plan.target
+
+-- the words have a plan, by what was read of FILE, but this is who uses what is not built yet
+pub record IsNotBuilt (gave : Gave) (old new : DiskView) (words : List (List ℕ)) (asker : List ℕ) : Type 0 where
+  pub asked : FileAnswer gave old new words
+  pub plan : Plan
+  pub is : plan_of asked.job asked.answer ≡ Ok plan
+  pub asks : IsAsker plan.manifest plan.target asker
 
 -- the words have no plan, by what was read of FILE, and this is why
 pub record IsRefused (gave : Gave) (old new : DiskView) (words : List (List ℕ)) (refusal : Refusal) : Type 0 where
@@ -80,11 +91,12 @@ pub record IsJob (words : List (List ℕ)) : Type 0 where
   pub job : Job
   pub is : job_of words ≡ Some job
 
--- why nothing was planned: the words are no job, they have no plan by what was read of FILE, the disk failed, or no memory was
--- left
+-- why nothing was planned: the words are no job, they have no plan by what was read of FILE, their target needs what is not
+-- built yet, the disk failed, or no memory was left
 pub data IsRefusal (gave : Gave) (old new : DiskView) (words : List (List ℕ)) : Refusal → Type 0 where
   usage : job_of words ≡ None → IsRefusal gave old new words (refusals.Usage Words)
   unplanned : {refusal : Refusal} → IsRefused gave old new words refusal → IsRefusal gave old new words refusal
+  unbuilt : {asker : List ℕ} → IsNotBuilt gave old new words asker → IsRefusal gave old new words (refusals.NotBuilt asker)
   failed : IsJob words → DiskFailed old new → IsRefusal gave old new words refusals.DiskFault
   no_memory : IsRefusal gave old new words refusals.NoMemory
 
@@ -94,5 +106,6 @@ refused_end (refusals.Usage fault) = ends.Usage fault
 refused_end (refusals.NoFile path) = ends.NoFile path
 refused_end (refusals.Manifest error) = ends.Manifest error
 refused_end (refusals.UnknownTarget name) = ends.UnknownTarget name
+refused_end (refusals.NotBuilt asker) = ends.NotBuilt asker
 refused_end refusals.DiskFault = ends.DiskFault
 refused_end refusals.NoMemory = ends.NoMemory

@@ -10,8 +10,8 @@ use Rattle.outside.specs.View.{DiskView, SinkView, DiskFailed, SinkFailed, Told,
 use Rattle.outside.specs.declared.order.Exit.{Exit}
 use Rattle.outside.specs.declared.order.Order.{Order}
 use Rattle.outside.specs.declared.world.NoFault.{NoFault}
-use Rattle.manifest_reader.specs.declared.command.Command.{Command}
-use Rattle.manifest_reader.specs.declared.command.Input.{Input}
+use Rattle.build_manifest.specs.declared.command.Command.{Command}
+use Rattle.build_manifest.specs.declared.command.Input.{Input}
 use Rattle.build_meaning.specs.Commands.{meaning_of}
 use Rattle.build_meaning.specs.Fresh.{Does, Fresh}
 use Rattle.llbuild_cli.specs.declared.refusal.Refusal.{Refusal}

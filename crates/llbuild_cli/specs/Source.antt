@@ -1,7 +1,7 @@
 -- The sources that a build asks for.
 use Rattle.std.specs.Prelude.{◌⊎◌, ℕ, List}
 use Rattle.file_info.specs.Lists.{In, IsDistinct}
-use Rattle.manifest_reader.specs.declared.command.Command.{Command}
+use Rattle.build_manifest.specs.declared.command.Command.{Command}
 use Rattle.build_meaning.specs.Fresh.{IsMade}
 use Rattle.build_meaning.specs.Need.{IsNeeded}
 use Rattle.build_report.specs.declared.report.StatSeen.{StatSeen}

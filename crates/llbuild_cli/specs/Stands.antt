@@ -4,7 +4,7 @@ use Rattle.file_info.specs.Content.{FileVersion, content}
 use Rattle.file_info.specs.Lists.{In}
 use Rattle.file_info.specs.declared.info.Info.{Info}
 use Rattle.outside.specs.View.{DiskView, Tells}
-use Rattle.manifest_reader.specs.declared.command.Command.{Command}
+use Rattle.build_manifest.specs.declared.command.Command.{Command}
 use Rattle.build_meaning.specs.Fresh.{Does, IsMade, Fresh}
 use Rattle.llbuild_cli.specs.Journal.{Journal, Knows}
 use Rattle.llbuild_cli.specs.Sight.{sights_of}

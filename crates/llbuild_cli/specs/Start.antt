@@ -1,8 +1,8 @@
 -- The starts of a build.
 use Rattle.std.specs.Prelude.{◌≡◌, ℕ, Bool, true, false, List, [], ◌∷◌, map, Option, Some, None}
 use Rattle.file_info.specs.Lists.{In, IsDistinct}
-use Rattle.manifest_reader.specs.declared.command.Command.{Command}
-use Rattle.manifest_reader.specs.declared.command.Input.{Input}
+use Rattle.build_manifest.specs.declared.command.Command.{Command}
+use Rattle.build_manifest.specs.declared.command.Input.{Input}
 use Rattle.build_meaning.specs.Need.{IsNeeded}
 use Rattle.build_report.specs.declared.report.Start.{Start}
 use Rattle.build_report.specs.declared.report.Reason.TheVariants.{NeverBuilt}

@@ -5,7 +5,7 @@ use Rattle.file_info.specs.declared.info.Info.TheVariants.{Missing}
 use Rattle.outside.specs.View.{Rose}
 use Rattle.outside.specs.declared.disk.DiskError.{DiskError}
 use Rattle.outside.specs.declared.disk.DiskError.TheVariants as errors
-use Rattle.manifest_reader.specs.declared.command.Input.{Input}
+use Rattle.build_manifest.specs.declared.command.Input.{Input}
 use Rattle.build_report.specs.declared.report.End.{End}
 use Rattle.build_report.specs.declared.report.End.TheVariants as ends
 use Rattle.llbuild_cli.specs.declared.stop.Stop.{Stop}

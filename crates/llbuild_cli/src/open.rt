@@ -1,23 +1,27 @@
 //! The manifest that words ask for.
-ghost use Rattle.std.specs.Prelude.{◌≡◌, ◌⊎◌, Some, None, Ok, IsTrue, map, string_bytes, IfOk, IfErr};
+ghost use Rattle.std.specs.Prelude.{◌≡◌, ◌⊎◌, Some, None, Ok, IsTrue, map, string_bytes, IfOk, IfErr, OnOk};
 ghost use Rattle.std.specs.Option.{option_copied};
 ghost use Rattle.std.specs.Str.{is_utf8};
 ghost use Rattle.outside.specs.View.{Stayed};
 ghost use Rattle.manifest_reader.specs.Load.{loaded};
-ghost use Rattle.manifest_reader.specs.Places.{target_named};
-ghost use Rattle.llbuild_cli.specs.Open.{IsUnread, IsUnloaded, IsOpened};
+ghost use Rattle.build_manifest.specs.Manifest.{IsManifest};
+ghost use Rattle.build_manifest.specs.Places.{target_named};
+ghost use Rattle.build_meaning.specs.Need.{AreMarks};
+ghost use Rattle.build_plan.specs.Built.{IsBuilt};
+ghost use Rattle.llbuild_cli.specs.Open.{IsUnread, IsUnloaded, IsUnbuilt, IsOpened};
 ghost use Rattle.llbuild_cli.specs.Plan.{IsAnswer, IsRefusal};
 ghost use Rattle.llbuild_cli.specs.Job.{job_of};
 
 use crate::refusal::Refusal;
 use crate::words::{Job, read_words};
+use build_manifest::command::TargetEntry;
+use build_manifest::manifest::Manifest;
+use build_plan::plan::{Unbuilt, plan};
 use build_report::report::UsageFault;
 use file_info::copied::Copied;
 use file_info::list::Bytes;
-use manifest_reader::command::TargetEntry;
 use manifest_reader::error::LoadError;
 use manifest_reader::load::load;
-use manifest_reader::manifest::Manifest;
 use outside::disk::FileBytes;
 use outside::law::Law;
 use outside::world::World;
@@ -75,6 +79,7 @@ fn bytes_of<L: Law, W: World<L>>(alloc: Global, job: &Job, world: &mut W) -> Res
 // The manifest of these bytes.
 fn manifest_of(alloc: Global, bytes: &Bytes) -> Result<Manifest, Refusal>
     ensures ok { IfOk result (λ manifest. loaded bytes.now ≡ Ok manifest) }
+    ensures kept { IfOk result (λ manifest. IsManifest manifest) }
     ensures refused { IfErr result (IsUnloaded bytes.now) }
 {
     let manifest = load(alloc, bytes.as_slice())?;
@@ -110,5 +115,22 @@ pub fn target_in<'m>(manifest: &'m Manifest, name: &Bytes) -> Option<&'m TargetE
     match std::str::from_utf8(name.as_slice()) {
         Ok(name) => manifest.target(name),
         Err(_) => None,
+    }
+}
+
+/// The commands that the target needs, one mark for each place, where all that it needs is built.
+pub fn marks_of(
+    alloc: Global,
+    manifest: &Manifest,
+    target: &TargetEntry,
+) -> Result<Vec<bool>, Refusal>
+    ensures marks { IfOk result (λ marks. AreMarks manifest.now.commands target.now.nodes marks.items) }
+    ensures built { OnOk result (IsBuilt manifest.now target.now) }
+    ensures refused { IfErr result (IsUnbuilt manifest.now target.now) }
+{
+    match plan(alloc, manifest, target) {
+        Ok(marks) => Ok(marks),
+        Err(Unbuilt::Asker(asker)) => Err(Refusal::NotBuilt { asker }),
+        Err(Unbuilt::NoMemory) => Err(Refusal::NoMemory),
     }
 }

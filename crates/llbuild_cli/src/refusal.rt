@@ -2,6 +2,7 @@
 use build_report::report::{End, UsageFault};
 use file_info::list::Bytes;
 use file_info::memory::NoMemory;
+use file_info::name::Name;
 use file_info::path::PathName;
 use manifest_reader::error::LoadError;
 use outside::disk::DiskError;
@@ -18,6 +19,8 @@ pub enum Refusal {
     Manifest(LoadError),
     /// The manifest has no target of this name.
     UnknownTarget { name: Bytes },
+    /// The target, or a command that it needs, uses what is not built yet.
+    NotBuilt { asker: Name },
     /// The disk failed.
     DiskFault,
     /// No memory was left.
@@ -76,6 +79,7 @@ impl From<Refusal> for End<NoFault> {
             Refusal::NoFile { path } => End::NoFile { path },
             Refusal::Manifest(error) => End::Manifest(error),
             Refusal::UnknownTarget { name } => End::UnknownTarget { name },
+            Refusal::NotBuilt { asker } => End::NotBuilt { asker },
             Refusal::DiskFault => End::DiskFault,
             Refusal::NoMemory => End::NoMemory,
         }

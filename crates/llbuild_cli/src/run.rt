@@ -7,7 +7,7 @@ ghost use Rattle.build_report.specs.Status.{status_of};
 ghost use Rattle.build_report.specs.Text.{failure_text};
 ghost use Rattle.llbuild_cli.specs.Growth.{WroteUnlessFault};
 
-use crate::open::{Opened, open, target_in};
+use crate::open::{Opened, marks_of, open, target_in};
 use crate::put_all::put_all;
 use crate::serial::build::build;
 use crate::serial::seen::Seen;
@@ -35,7 +35,8 @@ fn serve<L: Law, W: World<L>, O: Sink>(
     let Opened { manifest, target } = open(alloc, words, world)?;
     match target_in(&manifest, &target) {
         Some(entry) => {
-            build(alloc, &manifest, entry, world, out, seen)?;
+            let marks = marks_of(alloc, &manifest, entry)?;
+            build(alloc, &manifest, entry, marks.as_slice(), world, out, seen)?;
             Ok(())
         }
         None => Err(End::UnknownTarget { name: target }),

@@ -3,6 +3,5 @@ mod announce;
 pub mod build;
 mod execute;
 mod look;
-mod reach;
 pub mod seen;
 mod settle;

@@ -1,12 +1,5 @@
-pub mod Errors
-pub mod Tree
-pub mod Nodes
+pub mod Rows
 pub mod Attributes
-pub mod AttributeOrder
+pub mod Commands
 pub mod Sections
-pub mod Places
-pub mod Rules
-pub mod Makers
-pub mod Manifest
-pub mod FileManifest
 pub mod Load

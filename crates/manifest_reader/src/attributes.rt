@@ -1,65 +1,60 @@
-//! The attributes of a command.
-ghost use Rattle.std.specs.Prelude.{◌≡◌, [], ◌∷◌, ◌++◌, false, List as Items, Some, OnOk, IfErr};
-ghost use Rattle.std.specs.Option.{is_none};
-ghost use Rattle.yaml_profile.specs.declared.yaml.Pair.{Pair as Entry};
-ghost use Rattle.manifest_reader.specs.Errors.{Answers, Passes, Refuses};
-ghost use Rattle.manifest_reader.specs.Attributes as spec;
-ghost use Rattle.manifest_reader.specs.AttributeOrder.{AreSorted};
+//! The attributes of commands.
+ghost use Rattle.std.specs.Prelude.{◌≡◌};
+ghost use Rattle.manifest_reader.specs.Rows as spec;
+ghost use Rattle.manifest_reader.specs.Attributes as names;
 
-use crate::command::{Args, Command, Input, Tool};
-use crate::error::LoadError;
-use crate::nodes::{inputs_of, outputs_of, words_of};
-use crate::shapes::{name_of, pairs_of, text_of};
-use file_info::list::List;
-use file_info::name::Name;
-use std::alloc::Global;
-use yaml_profile::{Pair, Yaml};
+use build_manifest::command::Tool;
 
-/// The attributes that are served.
+/// An attribute of a command.
 #[derive(Clone, Copy, Debug, PartialEq, Eq)]
 pub enum Attribute {
     Tool,
     Inputs,
     Outputs,
+    Description,
+    MustFollow,
+    AllowMissingInputs,
+    AlwaysOutOfDate,
     Args,
+    Env,
+    Deps,
+    DepsStyle,
+    InheritEnv,
+    Signature,
+    Contents,
+    ExpectedOutputs,
+    Roots,
 }
 
-/// The values of a command's attributes, each where it is given.
-#[derive(Drop)]
-pub struct Attributes {
-    pub tool: Option<Yaml>,
-    pub inputs: Option<Yaml>,
-    pub outputs: Option<Yaml>,
-    pub args: Option<Yaml>,
-}
-
-// The tool of this name.
-#[tactic(auto, unfolding(crate::specs::Attributes::tool_in))]
-fn tool_of(tree: Yaml) -> Result<Tool, LoadError>
-    ensures { Answers result (spec.tool_in tree) }
+/// The tool of this name.
+#[tactic(auto, unfolding(crate::specs::Rows::tool_named))]
+pub fn tool_named(name: &[u8]) -> Option<Tool>
+    ensures { result ≡ spec.tool_named name.now }
 {
-    let text = text_of(tree)?;
-    if text.as_slice() == b"shell".as_slice() {
-        return Ok(Tool::Shell);
+    if name == b"phony".as_slice() {
+        return Some(Tool::Phony);
     }
-    Err(LoadError::NotYet)
+    if name == b"shell".as_slice() {
+        return Some(Tool::Shell);
+    }
+    if name == b"mkdir".as_slice() {
+        return Some(Tool::Mkdir);
+    }
+    if name == b"symlink".as_slice() {
+        return Some(Tool::Symlink);
+    }
+    if name == b"archive".as_slice() {
+        return Some(Tool::Archive);
+    }
+    if name == b"stale-file-removal".as_slice() {
+        return Some(Tool::StaleFileRemoval);
+    }
+    None
 }
 
-// Puts a value where there is none.
-fn put(slot: &mut Option<Yaml>, value: Yaml) -> Result<(), LoadError>
-    ensures passes { Passes result (is_none slot.old) }
-    ensures kept { OnOk result (slot.new ≡ Some value) }
-{
-    if slot.is_some() {
-        return Err(LoadError::NotYet);
-    }
-    *slot = Some(value);
-    Ok(())
-}
-
-// The attribute of this name.
-fn attribute_of(name: &[u8]) -> Option<Attribute>
-    ensures { result ≡ spec.attribute_named name.now }
+// The attribute of this name, where all tools have it.
+fn common_attribute(name: &[u8]) -> Option<Attribute>
+    ensures { result ≡ names.common_attribute name.now }
 {
     if name == b"tool".as_slice() {
         return Some(Attribute::Tool);
@@ -70,97 +65,92 @@ fn attribute_of(name: &[u8]) -> Option<Attribute>
     if name == b"outputs".as_slice() {
         return Some(Attribute::Outputs);
     }
-    if name == b"args".as_slice() {
-        return Some(Attribute::Args);
+    if name == b"description".as_slice() {
+        return Some(Attribute::Description);
     }
     None
 }
 
-impl Attributes {
-    // Takes one more pair: its name is that of an attribute that is not given so far.
-    fn take(&mut self, pair: Pair) -> Result<(), LoadError>
-        ensures taken { OnOk result ((ps : Items Entry) → AreSorted ps self.old → AreSorted (ps ++ pair ∷ []) self.new) }
-        ensures refused { IfErr result (λ e. Refuses e ((ps qs : Items Entry) → AreSorted ps self.old
-            → spec.are_attributes (ps ++ pair ∷ qs) ≡ false)) }
-    {
-        let Pair { name, value } = pair;
-        match attribute_of(name.as_slice()) {
-            Some(Attribute::Tool) => put(&mut self.tool, value),
-            Some(Attribute::Inputs) => put(&mut self.inputs, value),
-            Some(Attribute::Outputs) => put(&mut self.outputs, value),
-            Some(Attribute::Args) => put(&mut self.args, value),
-            None => Err(LoadError::NotYet),
-        }
+// The attribute of this name, where all tools with inputs have it.
+fn asking_attribute(name: &[u8]) -> Option<Attribute>
+    ensures { result ≡ names.asking_attribute name.now }
+{
+    if name == b"must-follow".as_slice() {
+        return Some(Attribute::MustFollow);
+    }
+    if name == b"allow-missing-inputs".as_slice() {
+        return Some(Attribute::AllowMissingInputs);
+    }
+    if name == b"always-out-of-date".as_slice() {
+        return Some(Attribute::AlwaysOutOfDate);
+    }
+    None
+}
+
+// The attribute of this name, where `shell` alone has it.
+fn shell_attribute(name: &[u8]) -> Option<Attribute>
+    ensures { result ≡ names.shell_attribute name.now }
+{
+    if name == b"args".as_slice() {
+        return Some(Attribute::Args);
+    }
+    if name == b"env".as_slice() {
+        return Some(Attribute::Env);
+    }
+    if name == b"deps".as_slice() {
+        return Some(Attribute::Deps);
+    }
+    if name == b"deps-style".as_slice() {
+        return Some(Attribute::DepsStyle);
+    }
+    if name == b"inherit-env".as_slice() {
+        return Some(Attribute::InheritEnv);
+    }
+    if name == b"signature".as_slice() {
+        return Some(Attribute::Signature);
+    }
+    None
+}
+
+// The attribute of this name, where `symlink` alone has it.
+fn link_attribute(name: &[u8]) -> Option<Attribute>
+    ensures { result ≡ names.link_attribute name.now }
+{
+    if name == b"contents".as_slice() {
+        return Some(Attribute::Contents);
+    }
+    None
+}
+
+// The attribute of this name, where `stale-file-removal` alone has it.
+fn removal_attribute(name: &[u8]) -> Option<Attribute>
+    ensures { result ≡ names.removal_attribute name.now }
+{
+    if name == b"expectedOutputs".as_slice() {
+        return Some(Attribute::ExpectedOutputs);
+    }
+    if name == b"roots".as_slice() {
+        return Some(Attribute::Roots);
+    }
+    None
+}
+
+// The attribute of this name that the tool has and some others lack.
+fn own_attribute(tool: Tool, name: &[u8]) -> Option<Attribute>
+    ensures { result ≡ names.own_attribute tool name.now }
+{
+    match tool {
+        Tool::Phony | Tool::Mkdir | Tool::Archive => asking_attribute(name),
+        Tool::Shell => asking_attribute(name).or_else(|| shell_attribute(name)),
+        Tool::Symlink => asking_attribute(name).or_else(|| link_attribute(name)),
+        Tool::StaleFileRemoval => removal_attribute(name),
     }
 }
 
-// The attributes of a mapping.
-#[tactic(auto, unfolding(crate::specs::Attributes::attributes_of))]
-fn attributes_of(pairs: List<Pair>) -> Result<Attributes, LoadError>
-    ensures { Answers result (spec.attributes_of pairs) }
+/// The attribute of this name that the tool has.
+#[tactic(auto, using(crate::proofs::AttributeLemmas::by_tool))]
+pub fn attribute_of(tool: Tool, name: &[u8]) -> Option<Attribute>
+    ensures { result ≡ spec.attribute_of tool name.now }
 {
-    let mut attributes = Attributes {
-        tool: None,
-        inputs: None,
-        outputs: None,
-        args: None,
-    };
-    for pair in pairs.into_vec() {
-        attributes.take(pair)?;
-    }
-    Ok(attributes)
-}
-
-// The inputs, none where the attribute is absent.
-#[tactic(auto, unfolding(crate::specs::Attributes::inputs_or_none))]
-fn inputs_or_none(alloc: Global, tree: Option<Yaml>) -> Result<List<Input>, LoadError>
-    ensures { Answers result (spec.inputs_or_none tree) }
-{
-    match tree {
-        Some(tree) => inputs_of(alloc, tree),
-        None => Ok(List::new(alloc)),
-    }
-}
-
-// The command of this name with these attributes, and the defaults of those that are not served yet.
-#[tactic(auto, unfolding(crate::specs::Attributes::command_of))]
-fn command_with(alloc: Global, name: Name, attributes: Attributes) -> Result<Command, LoadError>
-    ensures { Answers result (spec.command_of name attributes) }
-{
-    let (Some(tool), Some(outputs), Some(args)) = (
-        attributes.tool,
-        attributes.outputs,
-        attributes.args,
-    ) else {
-        return Err(LoadError::NotYet);
-    };
-    Ok(Command {
-        name,
-        tool: tool_of(tool)?,
-        inputs: inputs_or_none(alloc, attributes.inputs)?,
-        follow: List::new(alloc),
-        outputs: outputs_of(alloc, outputs)?,
-        description: None,
-        args: Args::Words(words_of(alloc, args)?),
-        env: List::new(alloc),
-        inherit_env: true,
-        deps: List::new(alloc),
-        signature: None,
-        contents: List::new(alloc),
-        allow_missing: false,
-        always: false,
-        expected: List::new(alloc),
-        roots: List::new(alloc),
-    })
-}
-
-/// The command of a pair: its name and the mapping of its attributes.
-#[tactic(auto, unfolding(crate::specs::Attributes::command_in))]
-pub fn command_of(alloc: Global, pair: Pair) -> Result<Command, LoadError>
-    ensures { Answers result (spec.command_in pair) }
-{
-    let Pair { name, value } = pair;
-    let name = name_of(name)?;
-    let attributes = attributes_of(pairs_of(value)?)?;
-    command_with(alloc, name, attributes)
+    common_attribute(name).or_else(|| own_attribute(tool, name))
 }

@@ -1,17 +1,18 @@
-// The reader of manifests: what a build has to do.
+// The reader of manifests.
 #![tactic(auto)]
 
 mod attributes;
-pub mod command;
+mod client;
+mod commands;
+mod entry_checks;
 pub mod error;
+mod inputs;
 pub mod laws;
 pub mod load;
-mod makers;
-pub mod manifest;
-mod nodes;
-mod order;
-mod places;
+mod outputs;
+mod put;
 mod sections;
-mod shapes;
+mod targets;
 #[cfg(test)]
 mod tests;
+mod tools;

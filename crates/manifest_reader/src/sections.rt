@@ -1,153 +1,234 @@
 //! The sections of a manifest.
-ghost use Rattle.manifest_reader.specs.Errors.{Answers, Passes};
-ghost use Rattle.manifest_reader.specs.Tree.{each};
-ghost use Rattle.manifest_reader.specs.Attributes.{command_in};
+ghost use Rattle.std.specs.Prelude.{◌≡◌};
+ghost use Rattle.manifest_values.specs.Refusal.{Gives, Makes};
 ghost use Rattle.manifest_reader.specs.Sections as spec;
 
-use crate::attributes::command_of;
-use crate::command::{Command, TargetEntry};
-use crate::error::LoadError;
-use crate::nodes::inputs_of;
-use crate::shapes::{name_of, pairs_of, text_of};
+use crate::client::client_checked;
+use crate::commands::draft_of;
+use crate::entry_checks::nodes_checked;
+use crate::targets::{default_of, targets_of};
+use crate::tools::tools_checked;
+use build_manifest::command::{COMMANDS_MAX, TargetEntry};
+use build_manifest::draft::Draft;
 use file_info::list::List;
+use file_info::name::Name;
+use manifest_values::known::Known;
+use manifest_values::parts::{ReadPart, Step, each_within, fold, shaped};
+use manifest_values::refusal::{Counted, Refusal, Stop};
+use manifest_values::shapes::{pairs_of, value_named};
 use std::alloc::Global;
 use yaml_profile::{Pair, Yaml};
 
-/// The most targets of a manifest.
-pub const TARGETS_MAX: usize = 65_536;
+/// A section, in the order in which they stand.
+#[derive(Clone, Copy, Debug, PartialEq, Eq)]
+pub enum Section {
+    Client,
+    Tools,
+    Targets,
+    Default,
+    Nodes,
+    Commands,
+}
 
-/// The most commands of a manifest.
-pub const COMMANDS_MAX: usize = 262_144;
-
-/// The sections of a manifest, each with its tree.
+/// What was read of a manifest so far.
 #[derive(Drop)]
-pub struct Sections {
-    pub client: Yaml,
-    pub targets: Yaml,
-    pub commands: Yaml,
+pub struct Parts {
+    /// The place of the last section in their order.
+    pub rank: u8,
+    pub targets: List<TargetEntry>,
+    pub default_name: Option<Name>,
+    pub drafts: List<Draft>,
 }
 
-// The value of a pair of this name.
-fn section_of(pair: Option<Pair>, name: &[u8]) -> Result<Yaml, LoadError>
-    ensures { Answers result (spec.section_of name.now pair) }
+// Reads the commands.
+#[derive(Clone, Copy)]
+struct ReadCommand<'a> {
+    known: &'a Known,
+}
+
+impl ReadPart for ReadCommand<'_> {
+    ghost use Rattle.manifest_reader.specs.Commands.{draft_of};
+
+    type Item = Pair;
+
+    type Part = Draft;
+
+    ghost gives = { λ s pair. draft_of s.known.now pair };
+
+    fn read(&self, alloc: Global, pair: Pair) -> Result<Draft, Stop> {
+        draft_of(alloc, self.known, pair)
+    }
+}
+
+// The commands.
+#[tactic(auto, unfolding(crate::specs::Sections::commands_of))]
+fn commands_of(alloc: Global, known: &Known, tree: Yaml) -> Result<List<Draft>, Stop>
+    ensures { Gives (λ x. x) result (spec.commands_of known.now tree) }
 {
-    match pair {
-        Some(pair) => {
-            if pair.name.as_slice() == name {
-                return Ok(pair.value);
-            }
-            Err(LoadError::NotYet)
+    let pairs = shaped(alloc, b"commands", b"commands", pairs_of(tree))?;
+    let reader = ReadCommand { known };
+    each_within(
+        alloc,
+        &reader,
+        pairs,
+        COMMANDS_MAX,
+        Counted::Commands,
+        COMMANDS_MAX as u64,
+    )
+}
+
+// The section of this name.
+#[tactic(auto, unfolding(crate::specs::Sections::section_named))]
+fn section_named(name: &[u8]) -> Option<Section>
+    ensures { result ≡ spec.section_named name.now }
+{
+    if name == b"client".as_slice() {
+        return Some(Section::Client);
+    }
+    if name == b"tools".as_slice() {
+        return Some(Section::Tools);
+    }
+    if name == b"targets".as_slice() {
+        return Some(Section::Targets);
+    }
+    if name == b"default".as_slice() {
+        return Some(Section::Default);
+    }
+    if name == b"nodes".as_slice() {
+        return Some(Section::Nodes);
+    }
+    if name == b"commands".as_slice() {
+        return Some(Section::Commands);
+    }
+    None
+}
+
+// The place of a section in their order.
+fn rank(section: Section) -> u8
+    ensures { result ≡ spec.rank section }
+{
+    match section {
+        Section::Client => 0,
+        Section::Tools => 1,
+        Section::Targets => 2,
+        Section::Default => 3,
+        Section::Nodes => 4,
+        Section::Commands => 5,
+    }
+}
+
+// Puts the targets.
+fn put_targets(alloc: Global, known: &Known, parts: &mut Parts, tree: Yaml) -> Result<(), Stop>
+    ensures { Makes parts.new result (spec.put_targets known.now parts.old tree) }
+{
+    let targets = targets_of(alloc, known, tree)?;
+    parts.targets = targets;
+    Ok(())
+}
+
+// Puts the name of the default target.
+fn put_default(alloc: Global, parts: &mut Parts, tree: Yaml) -> Result<(), Stop>
+    ensures { Makes parts.new result (spec.put_default parts.old tree) }
+{
+    let name = default_of(alloc, tree)?;
+    parts.default_name = Some(name);
+    Ok(())
+}
+
+// Puts the commands.
+fn put_commands(alloc: Global, known: &Known, parts: &mut Parts, tree: Yaml) -> Result<(), Stop>
+    ensures { Makes parts.new result (spec.put_commands known.now parts.old tree) }
+{
+    let drafts = commands_of(alloc, known, tree)?;
+    parts.drafts = drafts;
+    Ok(())
+}
+
+// Puts a section of this value.
+fn put_section(
+    alloc: Global,
+    known: &Known,
+    parts: &mut Parts,
+    section: Section,
+    tree: Yaml,
+) -> Result<(), Stop>
+    ensures { Makes parts.new result (spec.with_section known.now parts.old section tree) }
+{
+    match section {
+        Section::Client => client_checked(alloc, tree),
+        Section::Tools => tools_checked(alloc, tree),
+        Section::Targets => put_targets(alloc, known, parts, tree),
+        Section::Default => put_default(alloc, parts, tree),
+        Section::Nodes => nodes_checked(alloc, known, tree),
+        Section::Commands => put_commands(alloc, known, parts, tree),
+    }
+}
+
+// Takes the sections in turn.
+#[derive(Clone, Copy)]
+struct TakeSection<'a> {
+    known: &'a Known,
+}
+
+impl Step for TakeSection<'_> {
+    ghost use Rattle.manifest_reader.specs.Sections.{section_read};
+
+    type Item = Pair;
+
+    type State = Parts;
+
+    ghost makes = { λ s parts pair. section_read s.known.now parts pair };
+
+    #[tactic(auto, unfolding(crate::specs::Sections::section_read))]
+    fn take(&self, alloc: Global, parts: &mut Parts, pair: Pair) -> Result<(), Stop> {
+        let Pair { name, value } = pair;
+        let Some(section) = section_named(name.as_slice()) else {
+            return Err(Stop::Refused(Refusal::UnknownSection { name }));
+        };
+        if rank(section) < parts.rank {
+            return Err(Stop::Refused(Refusal::SectionOrder { section: name }));
         }
-        None => Err(LoadError::NotYet),
+        parts.rank = rank(section);
+        put_section(alloc, self.known, parts, section, value)
     }
 }
 
-// The three sections of these pairs, which stand in this order.
-fn three_sections(pairs: List<Pair>) -> Result<Sections, LoadError>
-    ensures { Answers result (spec.three_sections pairs) }
+// Nothing was read yet.
+fn no_parts(alloc: Global) -> Parts
+    ensures { result ≡ spec.no_parts }
 {
-    if pairs.len() != 3 {
-        return Err(LoadError::NotYet);
+    Parts {
+        rank: 0,
+        targets: List::new(alloc),
+        default_name: None,
+        drafts: List::new(alloc),
     }
-    let mut pairs = pairs.into_vec();
-    let commands = section_of(pairs.pop(), b"commands")?;
-    let targets = section_of(pairs.pop(), b"targets")?;
-    let client = section_of(pairs.pop(), b"client")?;
-    Ok(Sections {
-        client,
-        targets,
-        commands,
-    })
 }
 
-/// The three sections of a tree.
-#[tactic(auto, unfolding(crate::specs::Sections::sections_of))]
-pub fn sections_of(tree: Yaml) -> Result<Sections, LoadError>
-    ensures { Answers result (spec.sections_of tree) }
+// The parts of the manifest with these sections, which have a `client`.
+#[tactic(auto, unfolding(crate::specs::Sections::parts_in))]
+fn parts_in(alloc: Global, pairs: List<Pair>) -> Result<Parts, Stop>
+    ensures { Gives (λ x. x) result (spec.parts_in pairs) }
 {
-    three_sections(pairs_of(tree)?)
-}
-
-// The value of the only pair, which has this name.
-fn only_value(pairs: List<Pair>, name: &[u8]) -> Result<Yaml, LoadError>
-    ensures { Answers result (spec.only_value name.now pairs) }
-{
-    if pairs.len() != 1 {
-        return Err(LoadError::NotYet);
+    if value_named(&pairs, b"client").is_none() {
+        return Err(Stop::Refused(Refusal::NoClient));
     }
-    section_of(pairs.into_vec().pop(), name)
+    let known = Known::of(alloc, &pairs)?;
+    fold(
+        alloc,
+        &TakeSection { known: &known },
+        no_parts(alloc),
+        pairs,
+    )
 }
 
-/// Tests that the client is `basic`, and that nothing else is said of it.
-#[tactic(auto, unfolding(crate::specs::Sections::is_basic))]
-pub fn check_client(tree: Yaml) -> Result<(), LoadError>
-    ensures { Passes result (spec.is_basic tree) }
+/// The parts of the manifest of a tree.
+#[tactic(auto, unfolding(crate::specs::Sections::parts_of))]
+pub fn parts_of(alloc: Global, tree: Yaml) -> Result<Parts, Stop>
+    ensures { Gives (λ x. x) result (spec.parts_of tree) }
 {
-    let name = text_of(only_value(pairs_of(tree)?, b"name")?)?;
-    if name.as_slice() == b"basic".as_slice() {
-        return Ok(());
+    match pairs_of(tree) {
+        Some(pairs) => parts_in(alloc, pairs),
+        None => Err(Stop::Refused(Refusal::NoClient)),
     }
-    Err(LoadError::NotYet)
-}
-
-// The target of a pair: its name and its nodes.
-#[tactic(auto, unfolding(crate::specs::Sections::target_in))]
-fn target_of(alloc: Global, pair: Pair) -> Result<TargetEntry, LoadError>
-    ensures { Answers result (spec.target_in pair) }
-{
-    let Pair { name, value } = pair;
-    Ok(TargetEntry {
-        name: name_of(name)?,
-        nodes: inputs_of(alloc, value)?,
-    })
-}
-
-// The targets of these pairs.
-fn each_target(alloc: Global, pairs: List<Pair>) -> Result<List<TargetEntry>, LoadError>
-    ensures { Answers result (each spec.target_in pairs) }
-{
-    let mut targets = List::new(alloc);
-    targets.reserve(pairs.len())?;
-    for pair in pairs.into_vec() {
-        let target = target_of(alloc, pair)?;
-        targets.push(target)?;
-    }
-    Ok(targets)
-}
-
-/// The targets of their section.
-#[tactic(auto, unfolding(crate::specs::Sections::targets_in))]
-pub fn targets_of(alloc: Global, tree: Yaml) -> Result<List<TargetEntry>, LoadError>
-    ensures { Answers result (spec.targets_in tree) }
-{
-    let pairs = pairs_of(tree)?;
-    if pairs.len() > TARGETS_MAX {
-        return Err(LoadError::NotYet);
-    }
-    each_target(alloc, pairs)
-}
-
-// The commands of these pairs.
-fn each_command(alloc: Global, pairs: List<Pair>) -> Result<List<Command>, LoadError>
-    ensures { Answers result (each command_in pairs) }
-{
-    let mut commands = List::new(alloc);
-    commands.reserve(pairs.len())?;
-    for pair in pairs.into_vec() {
-        let command = command_of(alloc, pair)?;
-        commands.push(command)?;
-    }
-    Ok(commands)
-}
-
-/// The commands of their section.
-#[tactic(auto, unfolding(crate::specs::Sections::commands_in))]
-pub fn commands_of(alloc: Global, tree: Yaml) -> Result<List<Command>, LoadError>
-    ensures { Answers result (spec.commands_in tree) }
-{
-    let pairs = pairs_of(tree)?;
-    if pairs.len() > COMMANDS_MAX {
-        return Err(LoadError::NotYet);
-    }
-    each_command(alloc, pairs)
 }

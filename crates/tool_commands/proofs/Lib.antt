@@ -1,1 +1,2 @@
 pub mod SignatureLemmas
+pub mod LengthLemmas

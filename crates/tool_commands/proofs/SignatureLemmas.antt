@@ -7,11 +7,11 @@ use Rattle.spelling.specs.Spelling.{flag_bytes, text_bytes, list_bytes, node_byt
 use Rattle.outside.specs.Meaning.{ToolMeaning, group_of, key_bytes, tool_bytes, signature_of}
 use Rattle.outside.specs.OrderForm.{paths_of}
 use Rattle.outside.specs.declared.order.EnvText.{EnvText}
-use Rattle.manifest_reader.specs.declared.command.Args.{Args}
-use Rattle.manifest_reader.specs.declared.command.Args.TheVariants.{Absent, Words, Line}
-use Rattle.manifest_reader.specs.declared.command.Command.{Command}
-use Rattle.manifest_reader.specs.declared.command.EnvPair.{EnvPair}
-use Rattle.manifest_reader.specs.declared.command.Tool.TheVariants as tools
+use Rattle.build_manifest.specs.declared.command.Args.{Args}
+use Rattle.build_manifest.specs.declared.command.Args.TheVariants.{Absent, Words, Line}
+use Rattle.build_manifest.specs.declared.command.Command.{Command}
+use Rattle.build_manifest.specs.declared.command.EnvPair.{EnvPair}
+use Rattle.build_manifest.specs.declared.command.Tool.TheVariants as tools
 use Rattle.build_meaning.specs.Commands.{key_of, variable_of, shell_of, tool_in, meaning_of}
 use Rattle.tool_commands.specs.Program.{definition_bytes}
 

@@ -2,9 +2,9 @@
 use Rattle.std.specs.Prelude.{ℕ, List, [], ◌∷◌, ◌++◌, map, Option, Some, None, codes}
 use Rattle.spelling.specs.Spelling.{text_bytes, list_bytes}
 use Rattle.outside.specs.Meaning.{env_bytes}
-use Rattle.manifest_reader.specs.declared.command.Args.{Args}
-use Rattle.manifest_reader.specs.declared.command.Args.TheVariants.{Absent, Words, Line}
-use Rattle.manifest_reader.specs.declared.command.EnvPair.{EnvPair}
+use Rattle.build_manifest.specs.declared.command.Args.{Args}
+use Rattle.build_manifest.specs.declared.command.Args.TheVariants.{Absent, Words, Line}
+use Rattle.build_manifest.specs.declared.command.EnvPair.{EnvPair}
 use Rattle.build_meaning.specs.Commands.{variable_of}
 
 -- in a signature, what is run: 0 and the list of the words, which is empty where a command has none; or 1 and a list of the

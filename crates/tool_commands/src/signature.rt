@@ -1,29 +1,27 @@
 //! The canonical text of a shell command's meaning, and the order that it gives.
-ghost use Rattle.std.specs.Prelude.{◌≡◌, ◌<◌, ◌^◌, ◌∷◌, [], ◌++◌, length, map, false, IfOk, OnOk};
+ghost use Rattle.std.specs.Prelude.{◌≡◌, ◌∷◌, [], ◌++◌, length, map, false, IfOk, OnOk};
 ghost use Rattle.file_info.specs.Content.{node_text};
 ghost use Rattle.file_info.specs.Lists.{IsDistinct};
 ghost use Rattle.spelling.specs.Spelling.{text_bytes, list_bytes, node_bytes};
 ghost use Rattle.outside.specs.Meaning.{key_bytes, env_bytes, signature_of};
 ghost use Rattle.outside.specs.OrderForm.{AreReadsOf, IsActOf, IsOrderOf, paths_of};
-ghost use Rattle.manifest_reader.specs.declared.command.Tool.TheVariants as tools;
+ghost use Rattle.build_manifest.specs.declared.command.Tool.TheVariants as tools;
+ghost use Rattle.build_manifest.specs.Command.{IsCommand};
 ghost use Rattle.build_meaning.specs.Commands.{key_of, variable_of, meaning_of};
 ghost use Rattle.tool_commands.specs.Program.{program_bytes, definition_bytes, words_of};
 
+use build_manifest::command::{Args, Command, EnvPair, Input, InputForm};
 use file_info::copied::Copied;
 use file_info::list::{Bytes, List};
 use file_info::memory::NoMemory;
 use file_info::node::{NodeName, Read};
 use file_info::path::PathName;
-use manifest_reader::command::{Args, Command, EnvPair, Input, InputForm};
 use outside::order::{Act, EnvText, Order};
 use spelling::{push_count, push_flag, push_node, push_text};
 use std::alloc::Global;
 
 // The byte that begins the text of a shell command.
 const SHELL: u8 = 1;
-
-// The length that no signature has: its counts have four bytes.
-const SIGNATURE_END: usize = 4_294_967_296;
 
 // The first bytes of the keys of nodes, trees and structures.
 const NODE: u8 = 3;
@@ -225,14 +223,15 @@ fn paths(alloc: Global, nodes: &List<NodeName>) -> Result<List<PathName>, NoMemo
     Ok(paths)
 }
 
-/// The order of a shell command on what was read of its inputs. A signature whose counts would not fit four bytes is
-/// answered as want of memory: a manifest's text is too short for one.
+/// The order of a shell command of a manifest on what was read of its inputs. It fails for want of memory alone.
+#[tactic(auto, using(crate::proofs::LengthLemmas::signature_short))]
 pub fn order_of(
     alloc: Global,
     command: &Command,
     ticket: u64,
     reads: List<Read>,
 ) -> Result<Order, NoMemory>
+    requires { IsCommand command.now }
     ensures ticket { IfOk result (λ order. order.ticket ≡ ticket) }
     ensures command { IfOk result (λ order. order.command ≡ command.now.name) }
     ensures signature { command.now.tool ≡ tools.Shell → IfOk result (λ order. order.signature ≡ signature_of (meaning_of command.now)) }
@@ -246,9 +245,6 @@ pub fn order_of(
         → IfOk result (IsOrderOf (meaning_of command.now)) }
 {
     let signature = signature(alloc, command)?;
-    if signature.len() >= SIGNATURE_END {
-        return Err(NoMemory);
-    }
     let act = Act::Spawn {
         words: words(alloc, &command.args)?,
         env: variables(alloc, &command.env)?,
@@ -268,66 +264,4 @@ pub fn order_of(
 }
 
 #[cfg(test)]
-mod tests {
-    use super::*;
-    use file_info::name::Name;
-    use manifest_reader::command::Tool;
-    use std::test::Fail;
-
-    fn node(alloc: Global, text: &str) -> Result<NodeName, Fail> {
-        Ok(NodeName::Path(PathName::read(alloc, text)?))
-    }
-
-    // The shell command `p`, which copies `s` to `t`.
-    fn copies(alloc: Global) -> Result<Command, Fail> {
-        let mut inputs = List::new(alloc);
-        inputs.push(Input {
-            written: Name::read(alloc, "s")?,
-            node: node(alloc, "s")?,
-            form: InputForm::File,
-        })?;
-        let mut outputs = List::new(alloc);
-        outputs.push(node(alloc, "t")?)?;
-        let mut words = List::new(alloc);
-        words.push(word(alloc, b"cp")?)?;
-        words.push(word(alloc, b"s")?)?;
-        words.push(word(alloc, b"t")?)?;
-        Ok(Command {
-            name: Name::read(alloc, "p")?,
-            tool: Tool::Shell,
-            inputs,
-            follow: List::new(alloc),
-            outputs,
-            description: None,
-            args: Args::Words(words),
-            env: List::new(alloc),
-            inherit_env: true,
-            deps: List::new(alloc),
-            signature: None,
-            contents: List::new(alloc),
-            allow_missing: false,
-            always: false,
-            expected: List::new(alloc),
-            roots: List::new(alloc),
-        })
-    }
-
-    #[test]
-    fn a_signature_has_its_parts_in_order(rt: HostRuntime) -> Result<(), Fail> {
-        let command = copies(rt.alloc())?;
-        let text = signature(rt.alloc(), &command)?;
-        // The tool; one input, nothing to follow and one output.
-        let mut expected = b"\x01\0\0\0\x01\x03\0\0\0\0\x01s\0\0\0\0\0\0\0\x01\0\0\0\0\x01t".to_vec(
-            rt.alloc(),
-        )?;
-        // No flag; no signature of its own, and three words.
-        expected.extend_from_slice(b"\0\0\0\0\0\0\0\x03\0\0\0\x02cp\0\0\0\x01s\0\0\0\x01t")?;
-        // No variables but those of the build, and no dependency files.
-        expected.extend_from_slice(b"\0\0\0\0\x01\0\0\0\0")?;
-        assert_eq!(rt; text.as_slice(), expected.as_slice());
-        let order = order_of(rt.alloc(), &command, 7, List::new(rt.alloc()))?;
-        assert_eq!(rt; order.signature.as_slice(), expected.as_slice());
-        assert_eq!(rt; order.outputs.len(), 1);
-        Ok(())
-    }
-}
+mod tests;

@@ -2,9 +2,13 @@
 use super::*;
 use crate::report::Reason;
 use file_info::list::{Bytes, List};
+use file_info::node::NodeName;
 use file_info::path::PathName;
+use manifest_reader::error::LoadError;
+use manifest_values::refusal::Counted;
 use std::process::Abort;
 use std::test::Fail;
+use yaml_profile::{Feature, YamlError};
 
 fn name(alloc: Global, text: &str) -> Result<Name, Fail> {
     Ok(Name::read(alloc, text)?)
@@ -170,6 +174,128 @@ fn refused_manifests_have_their_lines(rt: HostRuntime) -> Result<(), Fail> {
         refused(&rt, alloc, YamlError::LeftOut { feature, at: 5 }, line)?;
     }
     Ok(())
+}
+
+// A manifest is refused with this line.
+fn unloaded(rt: &impl Abort, alloc: Global, error: LoadError, line: &str) -> Result<(), Fail> {
+    told(rt, alloc, End::Manifest(error), 2, line)
+}
+
+#[test]
+fn refused_parts_have_their_lines(rt: HostRuntime) -> Result<(), Fail> {
+    let alloc = rt.alloc();
+    let line = "error: manifest: no client\n";
+    unloaded(&rt, alloc, LoadError::NoClient, line)?;
+    let (name, version) = (bytes(alloc, "b\tc")?, bytes(alloc, "0")?);
+    let line = "error: manifest: wrong client b\\x09c version 0\n";
+    unloaded(&rt, alloc, LoadError::WrongClient { name, version }, line)?;
+    let name = bytes(alloc, "targts")?;
+    let line = "error: manifest: unknown section targts\n";
+    unloaded(&rt, alloc, LoadError::UnknownSection { name }, line)?;
+    let section = bytes(alloc, "targets")?;
+    let line = "error: manifest: section targets is out of order\n";
+    unloaded(&rt, alloc, LoadError::SectionOrder { section }, line)
+}
+
+#[test]
+fn refused_attributes_have_their_lines(rt: HostRuntime) -> Result<(), Fail> {
+    let alloc = rt.alloc();
+    let (owner, tool) = (bytes(alloc, "p")?, bytes(alloc, "clang")?);
+    let line = "error: manifest: unknown tool clang in p\n";
+    unloaded(&rt, alloc, LoadError::UnknownTool { owner, tool }, line)?;
+    let (owner, name) = (bytes(alloc, "p")?, bytes(alloc, "colour")?);
+    let line = "error: manifest: unknown attribute colour in p\n";
+    unloaded(
+        &rt,
+        alloc,
+        LoadError::UnknownAttribute { owner, name },
+        line,
+    )?;
+    let (owner, name) = (bytes(alloc, "p")?, bytes(alloc, "args")?);
+    let line = "error: manifest: bad attribute args in p\n";
+    unloaded(&rt, alloc, LoadError::BadAttribute { owner, name }, line)?;
+    let (owner, text) = (bytes(alloc, "all")?, bytes(alloc, "/..")?);
+    let line = "error: manifest: bad path /.. in all\n";
+    unloaded(&rt, alloc, LoadError::BadPath { owner, text }, line)
+}
+
+#[test]
+fn passed_limits_have_their_lines(rt: HostRuntime) -> Result<(), Fail> {
+    let alloc = rt.alloc();
+    for (what, limit, line) in [
+        (
+            Counted::Targets,
+            65_536,
+            "error: manifest: more than 65536 targets\n",
+        ),
+        (
+            Counted::Commands,
+            262_144,
+            "error: manifest: more than 262144 commands\n",
+        ),
+        (
+            Counted::Inputs,
+            65_536,
+            "error: manifest: more than 65536 inputs\n",
+        ),
+        (
+            Counted::Outputs,
+            65_536,
+            "error: manifest: more than 65536 outputs\n",
+        ),
+        (
+            Counted::Patterns,
+            64,
+            "error: manifest: more than 64 patterns\n",
+        ),
+        (
+            Counted::DepsFiles,
+            16,
+            "error: manifest: more than 16 dependency files\n",
+        ),
+    ] {
+        unloaded(&rt, alloc, LoadError::Limit { what, limit }, line)?;
+    }
+    Ok(())
+}
+
+#[test]
+fn broken_rules_have_their_lines(rt: HostRuntime) -> Result<(), Fail> {
+    let alloc = rt.alloc();
+    let error = LoadError::UnknownDefault {
+        name: name(alloc, "al")?,
+    };
+    unloaded(&rt, alloc, error, "error: manifest: unknown default al\n")?;
+    let error = LoadError::TwoMakers {
+        node: NodeName::Virtual(name(alloc, "<t>")?),
+        first: name(alloc, "p")?,
+        second: name(alloc, "q")?,
+    };
+    unloaded(
+        &rt,
+        alloc,
+        error,
+        "error: manifest: <t> is made by p and q\n",
+    )?;
+    let (command, node) = (name(alloc, "p")?, name(alloc, "out/")?);
+    let line = "error: manifest: directory output out/ in p\n";
+    unloaded(
+        &rt,
+        alloc,
+        LoadError::DirectoryOutput { command, node },
+        line,
+    )
+}
+
+#[test]
+fn other_refusals_have_their_lines(rt: HostRuntime) -> Result<(), Fail> {
+    let alloc = rt.alloc();
+    let (command, path) = (name(alloc, "p")?, PathName::read(alloc, "a.d")?);
+    let line = "error: manifest: dependency file a.d of p is also something else\n";
+    unloaded(&rt, alloc, LoadError::DepsClash { command, path }, line)?;
+    let asker = name(alloc, "all")?;
+    let line = "error: all uses what is not built yet\n";
+    told(&rt, alloc, End::NotBuilt { asker }, 2, line)
 }
 
 #[test]

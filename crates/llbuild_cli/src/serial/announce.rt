@@ -9,12 +9,12 @@ ghost use Rattle.llbuild_cli.specs.Growth.{GrewByPart};
 use crate::put_all::put_all;
 use crate::serial::seen::Seen;
 use crate::stop::Stop;
+use build_manifest::command::Command;
 use build_report::report::{Reason, Start};
 use build_report::texts::line_of;
 use file_info::copied::Copied;
 use file_info::list::{Bytes, List};
 use file_info::memory::NoMemory;
-use manifest_reader::command::Command;
 use outside::sink::Sink;
 use std::alloc::Global;
 

@@ -3,8 +3,8 @@ ghost use Rattle.std.specs.Prelude.{◌≡◌, ◌⊎◌, ℕ, ◌<◌, ◌≤�
 ghost use Rattle.file_info.specs.Content.{FileVersion};
 ghost use Rattle.file_info.specs.Lists.{In};
 ghost use Rattle.outside.specs.View.{Grew, Stayed, Tells};
-ghost use Rattle.manifest_reader.specs.FileManifest.{IsManifest, AreFileInputs};
 ghost use Rattle.build_meaning.specs.Need.{AreMarks};
+ghost use Rattle.build_plan.specs.Built.{IsBuilt};
 ghost use Rattle.llbuild_cli.specs.MissingInput.{ReadFirst, AllReadFirst, StopsAtMissing};
 ghost use Rattle.llbuild_cli.specs.BuildStop.{Announced, CameTo, DoneOne, IsRunStop, IsBuildStop, IsWrittenBy, IsWritten, IsFinishStop};
 ghost use Rattle.llbuild_cli.specs.Outcome.{HeardWell, AreOrders, AllDone, AllEnded, AreInStep};
@@ -14,7 +14,7 @@ ghost use Rattle.llbuild_cli.specs.Move.{Moved};
 ghost use Rattle.llbuild_cli.specs.Plan.{Plan};
 ghost use Rattle.llbuild_cli.specs.Output.{WroteStopped};
 ghost use Rattle.llbuild_cli.specs.CommandRun.{IsInput, IsSound, IsOutput, SeenStands, DidCommand};
-ghost use Rattle.llbuild_cli.specs.Input.{WereRead};
+ghost use Rattle.llbuild_cli.specs.Input.{AreFileInputs, WereRead};
 ghost use Rattle.llbuild_cli.specs.Source.{AreSources};
 ghost use Rattle.llbuild_cli.specs.Run.{Did, Run, run_of, report_of, answers_of};
 ghost use Rattle.llbuild_cli.specs.Stands.{Stands};
@@ -26,13 +26,12 @@ use crate::put_all::put_all;
 use crate::serial::announce::announce;
 use crate::serial::execute::execute;
 use crate::serial::look::gather;
-use crate::serial::reach::reach;
 use crate::serial::seen::Seen;
 use crate::serial::settle::settle;
 use crate::stop::Stop;
+use build_manifest::command::{Command, TargetEntry};
+use build_manifest::manifest::Manifest;
 use build_report::texts::summary;
-use manifest_reader::command::{Command, TargetEntry};
-use manifest_reader::manifest::Manifest;
 use outside::law::Law;
 use outside::sink::Sink;
 use outside::world::World;
@@ -89,7 +88,7 @@ fn run_all<L: Law, W: World<L>, O: Sink>(
     seen: &mut Seen,
 ) -> Result<(), Stop>
     requires none { (W.view world.old).orders ≡ [] }
-    requires manifest { IsManifest manifest.now }
+    requires built { IsBuilt manifest.now target.now }
     requires marks { AreMarks manifest.now.commands target.now.nodes marks.now }
     requires unused { seen.old ≡ unused }
     ensures none { (W.view world.new).orders ≡ [] }
@@ -115,6 +114,8 @@ fn run_all<L: Law, W: World<L>, O: Sink>(
     ensures read { AllReadFirst manifest.now.commands (Knows seen.new) seen.new.starts seen.new.heard }
     ensures missing { IfErr result (StopsAtMissing manifest.now.commands target.now (Knows seen.new) seen.new.starts seen.new.heard) }
 {
+    // Its clause says what every manifest keeps.
+    manifest.keeps();
     'commands: for (place, is_marked) in marks.iter().enumerate() {
         if !*is_marked {
             continue;
@@ -154,19 +155,20 @@ fn finish<L: Law, W: World<L>, O: Sink>(
     Ok(())
 }
 
-/// Builds the nodes of a target: starts each command that it needs, once, and writes a line for each start and a last one
-/// with their number. At the first failing event nothing more is started.
+/// Builds the nodes of a target, all of which is built today: starts each command that it needs, and that is marked, once, and
+/// writes a line for each start and a last one with their number. At the first failing event nothing more is started.
 pub fn build<L: Law, W: World<L>, O: Sink>(
     alloc: Global,
     manifest: &Manifest,
     target: &TargetEntry,
+    marks: &[bool],
     world: &mut W,
     out: &mut O,
     seen: &mut Seen,
 ) -> Result<(), Stop>
     requires none { (W.view world.old).orders ≡ [] }
-    requires manifest { IsManifest manifest.now }
-    requires target { AreFileInputs target.now.nodes }
+    requires built { IsBuilt manifest.now target.now }
+    requires marks { AreMarks manifest.now.commands target.now.nodes marks.now }
     requires unused { seen.old ≡ unused }
     ensures none { (W.view world.new).orders ≡ [] }
     ensures begins { (W.view world.new).begins ≤ (W.view world.old).begins + length seen.new.starts }
@@ -174,8 +176,7 @@ pub fn build<L: Law, W: World<L>, O: Sink>(
         (run_of (W.view world.old) (W.view world.new) (O.view out.old) (O.view out.new) (report_of (end_after result) seen.new))
         (record { manifest = manifest.now; target = target.now }) result }
 {
-    let marks = reach(alloc, manifest, &target.nodes)?;
-    run_all(alloc, manifest, target, marks.as_slice(), world, out, seen)?;
+    run_all(alloc, manifest, target, marks, world, out, seen)?;
     finish(alloc, target, world, out, seen)?;
     Ok(())
 }

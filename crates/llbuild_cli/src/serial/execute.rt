@@ -9,9 +9,9 @@ ghost use Rattle.llbuild_cli.specs.CommandRun.{IsSound, IsOutput, IsOrderFor, Is
 ghost use Rattle.llbuild_cli.specs.Stop.{IsDiskStop};
 
 use crate::stop::Stop;
+use build_manifest::command::Command;
 use file_info::list::List;
 use file_info::node::Read;
-use manifest_reader::command::Command;
 use outside::law::Law;
 use outside::order::{Ended, Exit};
 use outside::world::World;

@@ -1,22 +1,22 @@
 //! What stands at the inputs of a command.
 ghost use Rattle.std.specs.Prelude.{◌≡◌, ◌∷◌, [], IfOk, IfErr};
 ghost use Rattle.outside.specs.View.{Stayed};
-ghost use Rattle.manifest_reader.specs.FileManifest.{IsFileInput, AreFileInputs};
+ghost use Rattle.build_plan.specs.Built.{IsFileInput};
 ghost use Rattle.llbuild_cli.specs.Journal.{Knows, IsUnknown, IsOnce};
 ghost use Rattle.llbuild_cli.specs.Look.{Looked};
-ghost use Rattle.llbuild_cli.specs.Input.{IsRead, AreRead};
+ghost use Rattle.llbuild_cli.specs.Input.{AreFileInputs, IsRead, AreRead};
 ghost use Rattle.llbuild_cli.specs.CommandRun.{IsInput};
 ghost use Rattle.llbuild_cli.specs.Stop.{IsDiskStop, IsReadStop, IsInputStop};
 
 use crate::serial::seen::Seen;
 use crate::stop::Stop;
+use build_manifest::command::Input;
 use file_info::copied::Copied;
 use file_info::info::{Form, Info};
 use file_info::list::List;
 use file_info::name::Name;
 use file_info::node::{NodeName, Read, Reading};
 use file_info::path::PathName;
-use manifest_reader::command::Input;
 use outside::law::Law;
 use outside::world::World;
 use std::alloc::Global;

@@ -27,4 +27,5 @@ returns-clause-ok g c = record {
   answer_is = refl;
   loads = c.in_ok-manifest.ensures.ok;
   target_is = refl;
+  kept = c.in_ok-manifest.ensures.kept;
 }

@@ -1,5 +1,5 @@
 use Rattle.outside.specs.Meaning.{env_bytes}
-use Rattle.manifest_reader.specs.declared.command.EnvPair.{EnvPair}
+use Rattle.build_manifest.specs.declared.command.EnvPair.{EnvPair}
 use Rattle.build_meaning.specs.Commands.{variable_of}
 use Rattle.spelling.proofs.ItemLemmas.{items-more, list-whole-map}
 use Rattle.tool_commands.proofs.SignatureLemmas.{pushed_both}

@@ -1,7 +1,7 @@
 use Rattle.std.proofs.Common.{◌≡◌, ◌++◌, take}
 use Rattle.spelling.specs.Spelling.{items_bytes}
 use Rattle.outside.specs.Meaning.{env_bytes}
-use Rattle.manifest_reader.specs.declared.command.EnvPair.{EnvPair}
+use Rattle.build_manifest.specs.declared.command.EnvPair.{EnvPair}
 use Rattle.build_meaning.specs.Commands.{variable_of}
 use Rattle.tool_commands.proofs.signature.push_env.Given as goal
 

@@ -1,5 +1,5 @@
 use Rattle.outside.specs.Meaning.{key_bytes}
-use Rattle.manifest_reader.specs.declared.command.Input.{Input}
+use Rattle.build_manifest.specs.declared.command.Input.{Input}
 use Rattle.build_meaning.specs.Commands.{key_of}
 use Rattle.spelling.proofs.ItemLemmas.{items-more, list-whole-map}
 use Rattle.tool_commands.proofs.signature.push_keys.Goals as goal

@@ -1,7 +1,7 @@
 use Rattle.std.proofs.Common.{◌≡◌, ◌++◌, take}
 use Rattle.spelling.specs.Spelling.{items_bytes}
 use Rattle.outside.specs.Meaning.{key_bytes}
-use Rattle.manifest_reader.specs.declared.command.Input.{Input}
+use Rattle.build_manifest.specs.declared.command.Input.{Input}
 use Rattle.build_meaning.specs.Commands.{key_of}
 use Rattle.tool_commands.proofs.signature.push_keys.Given as goal
 

@@ -1,4 +1,4 @@
-use Rattle.std.proofs.Common.{rules, ◌≡◌, ◌∙◌, ◌++◌, ℕ, List, length, refl, sym, ap, subst, inr}
+use Rattle.std.proofs.Common.{rules, ◌≡◌, ◌∙◌, ◌++◌, ℕ, List, length, sym, ap, subst}
 use Rattle.file_info.specs.Content.{content, node_text}
 use Rattle.file_info.specs.declared.info.Info.{Info}
 use Rattle.file_info.specs.declared.info.Form.TheVariants.{Follow}
@@ -7,10 +7,9 @@ use Rattle.build_meaning.specs.Fresh.{Fresh}
 use Rattle.build_meaning.specs.Need.{AreMarks}
 use Rattle.build_report.specs.declared.report.Heard.{Heard}
 use Rattle.build_report.specs.declared.report.Start.{Start}
-use Rattle.llbuild_cli.specs.declared.stop.Stop.TheVariants.{NoMemory}
 use Rattle.llbuild_cli.specs.BuildStop.{IsBuildStop, IsFinishStop}
 use Rattle.llbuild_cli.specs.Outcome.{AllDone, AllEnded}
-use Rattle.llbuild_cli.specs.Journal.{Journal, Knows}
+use Rattle.llbuild_cli.specs.Journal.{Knows}
 use Rattle.llbuild_cli.specs.Plan.{Plan}
 use Rattle.llbuild_cli.specs.Run.{Answers, answers_of}
 use Rattle.llbuild_cli.specs.Sight.{sights_of}
@@ -18,32 +17,15 @@ use Rattle.llbuild_cli.specs.Stands.{Stands}
 use Rattle.llbuild_cli.specs.Start.{AllStarted}
 use Rattle.build_report.specs.Text.{lines_of, summary_text}
 use Rattle.llbuild_cli.proofs.MissingLemmas.{finish_missing, read_not_stuck, target_asks}
-use Rattle.llbuild_cli.proofs.DidLemmas.{IsBuilt, did_all, did_stop, finished, nothing_built}
+use Rattle.llbuild_cli.proofs.DidLemmas.{WasBuilt, did_all, did_stop, finished}
 use Rattle.llbuild_cli.proofs.ProgressLemmas.{moved_stayed}
 use Rattle.llbuild_cli.proofs.InputLemmas.{read_of}
 use Rattle.llbuild_cli.proofs.NeedLemmas.{nodes_settled}
-use Rattle.llbuild_cli.proofs.SinkLemmas.{Grew-none, Grew-both}
+use Rattle.llbuild_cli.proofs.SinkLemmas.{Grew-both}
 use Rattle.llbuild_cli.proofs.StartLemmas.{all_started}
 use Rattle.llbuild_cli.proofs.StandsLemmas.{stands_looked}
-use Rattle.llbuild_cli.proofs.StopLemmas.{finish_part, finish_stopped, no_part}
+use Rattle.llbuild_cli.proofs.StopLemmas.{finish_part, finish_stopped}
 use Rattle.llbuild_cli.proofs.serial.build.build.Goals as goal
-
-pub returns-in_err-marks-clause-did : goal.returns-in_err-marks-clause-did
-returns-in_err-marks-clause-did g c =
-    let view = g.W.Disk.view in
-    let seen_out = g.O.Sink.view in
-    let m = c.args.manifest.now in
-    let commands = m.commands in
-    let target = c.args.target.now in
-    let plan : Plan = record { manifest = m; target = target } in
-    let answers : Answers = answers_of g.L.Law.does g.W.World.ended g.W.Disk.gave in
-    let out = seen_out c.args.out.now in
-    let j = c.args.seen.now in
-    did_stop answers (view c.args.world.now) (view c.args.world.now) out out plan j c.from_residual.result NoMemory (search rules)
-    (nothing_built answers (view c.args.world.now) plan j c.requires.unused)
-    (λ asker node stuck done ended. inr refl)
-    (no_part _ _ out out j.starts (subst (λ (x : Journal). Grew out out (lines_of x.starts)) (sym c.requires.unused) (Grew-none out)))
-    (subst (λ (x : Journal). AllDone x.heard) (sym c.requires.unused) (λ h i. absurd i))
 
 pub returns-in_err-run_all-clause-did : goal.returns-in_err-run_all-clause-did
 returns-in_err-run_all-clause-did g c =
@@ -55,7 +37,7 @@ returns-in_err-run_all-clause-did g c =
     let plan : Plan = record { manifest = m; target = target } in
     let answers : Answers = answers_of g.L.Law.does g.W.World.ended g.W.Disk.gave in
     let all = c.run_all.ensures in
-    let ran : IsBuilt answers (view c.args.world.now) (view c.run_all.new.world) plan c.run_all.new.seen = record {
+    let ran : WasBuilt answers (view c.args.world.now) (view c.run_all.new.world) plan c.run_all.new.seen = record {
       once = all.once;
       sources = all.sources;
       started = all.starts;
@@ -68,7 +50,7 @@ returns-in_err-run_all-clause-did g c =
     } in
     let stop = c.in_err-run_all.field-0.0 in
     let err = c.in_err-run_all.ensures in
-    did_stop answers (view c.args.world.now) (view c.run_all.new.world) (seen_out c.args.out.now) (seen_out c.run_all.new.out) plan c.run_all.new.seen c.from_residual-in_err-run_all.result stop (search rules)
+    did_stop answers (view c.args.world.now) (view c.run_all.new.world) (seen_out c.args.out.now) (seen_out c.run_all.new.out) plan c.run_all.new.seen c.from_residual.result stop (search rules)
     ran err.missing err.part err.stop
 
 pub returns-in_err-finish-clause-did : goal.returns-in_err-finish-clause-did
@@ -81,7 +63,7 @@ returns-in_err-finish-clause-did g c =
     let plan : Plan = record { manifest = m; target = target } in
     let answers : Answers = answers_of g.L.Law.does g.W.World.ended g.W.Disk.gave in
     let all = c.run_all.ensures in
-    let ran : IsBuilt answers (view c.args.world.now) (view c.run_all.new.world) plan c.run_all.new.seen = record {
+    let ran : WasBuilt answers (view c.args.world.now) (view c.run_all.new.world) plan c.run_all.new.seen = record {
       once = all.once;
       sources = all.sources;
       started = all.starts;
@@ -92,14 +74,14 @@ returns-in_err-finish-clause-did g c =
       read = all.read;
       apart = all.moved;
     } in
-    let marks = c.as_slice.result.now in
-    let are : AreMarks commands target.nodes marks = subst (λ (ms : List _). AreMarks commands target.nodes ms) (sym c.as_slice.ensures.value) c.in_ok-marks.ensures in
+    let marks = c.args.marks.now in
+    let are : AreMarks commands target.nodes marks = c.requires.marks in
     let ok = c.in_ok-run_all.ensures in
     let j = c.finish.new.seen in
     let looked = c.finish.ensures.looked in
     let stayed = c.finish.ensures.stayed in
-    let settled = nodes_settled target.nodes are ok.stands c.requires.target.files in
-    let built : IsBuilt answers (view c.args.world.now) (view c.finish.new.world) plan j =
+    let settled = nodes_settled target.nodes are ok.stands c.requires.built.nodes in
+    let built : WasBuilt answers (view c.args.world.now) (view c.finish.new.world) plan j =
     finished answers (view c.args.world.now) (view c.run_all.new.world) (view c.finish.new.world) plan c.run_all.new.seen j ran stayed looked c.finish.ensures.once settled in
     let started : AllStarted commands target.nodes j.starts =
     subst (λ (ss : List Start). AllStarted commands target.nodes ss) (sym (looked.starts ∙ ok.started)) (all_started commands target.nodes marks are) in
@@ -135,7 +117,7 @@ returns-clause-did g c =
     let plan : Plan = record { manifest = m; target = target } in
     let answers : Answers = answers_of g.L.Law.does g.W.World.ended g.W.Disk.gave in
     let all = c.run_all.ensures in
-    let ran : IsBuilt answers (view c.args.world.now) (view c.run_all.new.world) plan c.run_all.new.seen = record {
+    let ran : WasBuilt answers (view c.args.world.now) (view c.run_all.new.world) plan c.run_all.new.seen = record {
       once = all.once;
       sources = all.sources;
       started = all.starts;
@@ -146,14 +128,14 @@ returns-clause-did g c =
       read = all.read;
       apart = all.moved;
     } in
-    let marks = c.as_slice.result.now in
-    let are : AreMarks commands target.nodes marks = subst (λ (ms : List _). AreMarks commands target.nodes ms) (sym c.as_slice.ensures.value) c.in_ok-marks.ensures in
+    let marks = c.args.marks.now in
+    let are : AreMarks commands target.nodes marks = c.requires.marks in
     let ok = c.in_ok-run_all.ensures in
     let j = c.finish.new.seen in
     let looked = c.finish.ensures.looked in
     let stayed = c.finish.ensures.stayed in
-    let settled = nodes_settled target.nodes are ok.stands c.requires.target.files in
-    let built : IsBuilt answers (view c.args.world.now) (view c.finish.new.world) plan j =
+    let settled = nodes_settled target.nodes are ok.stands c.requires.built.nodes in
+    let built : WasBuilt answers (view c.args.world.now) (view c.finish.new.world) plan j =
     finished answers (view c.args.world.now) (view c.run_all.new.world) (view c.finish.new.world) plan c.run_all.new.seen j ran stayed looked c.finish.ensures.once settled in
     let started : AllStarted commands target.nodes j.starts =
     subst (λ (ss : List Start). AllStarted commands target.nodes ss) (sym (looked.starts ∙ ok.started)) (all_started commands target.nodes marks are) in

@@ -8,6 +8,7 @@ use Rattle.build_meaning.specs.Fresh.{IsMade}
 use Rattle.build_meaning.specs.Need.{IsNeeded}
 use Rattle.build_meaning.specs.Orderly.{AreOrderly}
 use Rattle.build_meaning.proofs.OrderlyLemmas.{orderly}
+use Rattle.build_plan.specs.Built.{IsBuiltAt}
 use Rattle.build_report.specs.declared.report.Start.{Start}
 use Rattle.llbuild_cli.specs.Journal.{Knows}
 use Rattle.llbuild_cli.specs.Plan.{Plan}
@@ -36,21 +37,23 @@ run_one-requires-clause-sound g c κs within =
     let place = c.commands.place in
     let cmd = c.in-Some.command.now in
     let old = c.commands.invariant in
-    let rule : AreOrderly commands = orderly m c.requires.manifest in
+    let rule : AreOrderly commands = orderly m c.keeps.ensures in
     let at_place : slice_get commands place ≡ Some cmd = sym c.in-Some.ensures.value in
     let marked : slice_get marks place ≡ Some true = get-read marks place false true c.if-not-is_marked.false c.commands-test.true in
     let named : In cmd commands = In-get commands place cmd at_place in
     let needed : IsNeeded commands wanted cmd = (c.requires.marks.each place cmd at_place).0 marked in
+    let here : IsBuiltAt commands place cmd = c.requires.built.commands place cmd at_place needed in
     record {
-      served = c.requires.manifest.commands cmd named;
+      command = c.keeps.ensures.parts.each_command cmd named;
+      plain = here.plain;
       distinct = rule.outputs cmd named;
-      apart = λ p i o. rule.inputs place cmd i.0 at_place i.1.0 (subst (λ (q : List ℕ). IsMade (drop place commands) q) i.1.1 (made_here commands place cmd p at_place o));
+      apart = λ p i o. here.earlier i.0 i.1.0 (subst (λ (q : List ℕ). IsMade (drop place commands) q) i.1.1 (made_here commands place cmd p at_place o));
     }
 
 pub run_one-requires-clause-room : goal.run_one-requires-clause-room
 run_one-requires-clause-room g c κs within =
     let before = take c.commands.place c.args.manifest.now.commands in
-    omega (arith, ap length c.commands.invariant.starts, starts_few before c.args.marks.now, length-take c.commands.place c.args.manifest.now.commands, c.requires.manifest.few_commands)
+    omega (arith, ap length c.commands.invariant.starts, starts_few before c.args.marks.now, length-take c.commands.place c.args.manifest.now.commands, c.keeps.ensures.parts.few_commands)
 
 pub run_one-requires-clause-unseen : goal.run_one-requires-clause-unseen
 run_one-requires-clause-unseen g c κs within p o =
@@ -73,13 +76,13 @@ returns-in_err-run_one-clause-moved g c =
     let place = c.commands.place in
     let cmd = c.in-Some.command.now in
     let old = c.commands.invariant in
-    let rule : AreOrderly commands = orderly m c.requires.manifest in
+    let rule : AreOrderly commands = orderly m c.keeps.ensures in
     let at_place : slice_get commands place ≡ Some cmd = sym c.in-Some.ensures.value in
     let marked : slice_get marks place ≡ Some true = get-read marks place false true c.if-not-is_marked.false c.commands-test.true in
     let named : In cmd commands = In-get commands place cmd at_place in
     let needed : IsNeeded commands wanted cmd = (c.requires.marks.each place cmd at_place).0 marked in
     let settled : (p : List ℕ) → IsInput cmd.inputs p → IsMade commands p → (i : Info) × Knows c.commands.seen p i =
-    inputs_settled wanted rule c.requires.marks old.stands cmd at_place marked (c.requires.manifest.commands cmd named).inputs.files in
+    inputs_settled wanted c.requires.marks old.stands cmd at_place marked (c.requires.built.commands place cmd at_place needed) in
     let one = c.run_one.ensures in
     let before = c.commands.seen.starts in
     let after = c.run_one.new.seen.starts in
@@ -113,13 +116,13 @@ returns-in_err-run_one-clause-starts g c =
     let place = c.commands.place in
     let cmd = c.in-Some.command.now in
     let old = c.commands.invariant in
-    let rule : AreOrderly commands = orderly m c.requires.manifest in
+    let rule : AreOrderly commands = orderly m c.keeps.ensures in
     let at_place : slice_get commands place ≡ Some cmd = sym c.in-Some.ensures.value in
     let marked : slice_get marks place ≡ Some true = get-read marks place false true c.if-not-is_marked.false c.commands-test.true in
     let named : In cmd commands = In-get commands place cmd at_place in
     let needed : IsNeeded commands wanted cmd = (c.requires.marks.each place cmd at_place).0 marked in
     let settled : (p : List ℕ) → IsInput cmd.inputs p → IsMade commands p → (i : Info) × Knows c.commands.seen p i =
-    inputs_settled wanted rule c.requires.marks old.stands cmd at_place marked (c.requires.manifest.commands cmd named).inputs.files in
+    inputs_settled wanted c.requires.marks old.stands cmd at_place marked (c.requires.built.commands place cmd at_place needed) in
     let one = c.run_one.ensures in
     let before = c.commands.seen.starts in
     let after = c.run_one.new.seen.starts in
@@ -151,13 +154,13 @@ returns-in_err-run_one-clause-step g c =
     let place = c.commands.place in
     let cmd = c.in-Some.command.now in
     let old = c.commands.invariant in
-    let rule : AreOrderly commands = orderly m c.requires.manifest in
+    let rule : AreOrderly commands = orderly m c.keeps.ensures in
     let at_place : slice_get commands place ≡ Some cmd = sym c.in-Some.ensures.value in
     let marked : slice_get marks place ≡ Some true = get-read marks place false true c.if-not-is_marked.false c.commands-test.true in
     let named : In cmd commands = In-get commands place cmd at_place in
     let needed : IsNeeded commands wanted cmd = (c.requires.marks.each place cmd at_place).0 marked in
     let settled : (p : List ℕ) → IsInput cmd.inputs p → IsMade commands p → (i : Info) × Knows c.commands.seen p i =
-    inputs_settled wanted rule c.requires.marks old.stands cmd at_place marked (c.requires.manifest.commands cmd named).inputs.files in
+    inputs_settled wanted c.requires.marks old.stands cmd at_place marked (c.requires.built.commands place cmd at_place needed) in
     let one = c.run_one.ensures in
     let before = c.commands.seen.starts in
     let after = c.run_one.new.seen.starts in
@@ -190,13 +193,13 @@ returns-in_err-run_one-clause-orders g c =
     let place = c.commands.place in
     let cmd = c.in-Some.command.now in
     let old = c.commands.invariant in
-    let rule : AreOrderly commands = orderly m c.requires.manifest in
+    let rule : AreOrderly commands = orderly m c.keeps.ensures in
     let at_place : slice_get commands place ≡ Some cmd = sym c.in-Some.ensures.value in
     let marked : slice_get marks place ≡ Some true = get-read marks place false true c.if-not-is_marked.false c.commands-test.true in
     let named : In cmd commands = In-get commands place cmd at_place in
     let needed : IsNeeded commands wanted cmd = (c.requires.marks.each place cmd at_place).0 marked in
     let settled : (p : List ℕ) → IsInput cmd.inputs p → IsMade commands p → (i : Info) × Knows c.commands.seen p i =
-    inputs_settled wanted rule c.requires.marks old.stands cmd at_place marked (c.requires.manifest.commands cmd named).inputs.files in
+    inputs_settled wanted c.requires.marks old.stands cmd at_place marked (c.requires.built.commands place cmd at_place needed) in
     let one = c.run_one.ensures in
     let before = c.commands.seen.starts in
     let after = c.run_one.new.seen.starts in
@@ -228,13 +231,13 @@ returns-in_err-run_one-clause-part g c =
     let place = c.commands.place in
     let cmd = c.in-Some.command.now in
     let old = c.commands.invariant in
-    let rule : AreOrderly commands = orderly m c.requires.manifest in
+    let rule : AreOrderly commands = orderly m c.keeps.ensures in
     let at_place : slice_get commands place ≡ Some cmd = sym c.in-Some.ensures.value in
     let marked : slice_get marks place ≡ Some true = get-read marks place false true c.if-not-is_marked.false c.commands-test.true in
     let named : In cmd commands = In-get commands place cmd at_place in
     let needed : IsNeeded commands wanted cmd = (c.requires.marks.each place cmd at_place).0 marked in
     let settled : (p : List ℕ) → IsInput cmd.inputs p → IsMade commands p → (i : Info) × Knows c.commands.seen p i =
-    inputs_settled wanted rule c.requires.marks old.stands cmd at_place marked (c.requires.manifest.commands cmd named).inputs.files in
+    inputs_settled wanted c.requires.marks old.stands cmd at_place marked (c.requires.built.commands place cmd at_place needed) in
     let one = c.run_one.ensures in
     let before = c.commands.seen.starts in
     let after = c.run_one.new.seen.starts in
@@ -268,13 +271,13 @@ returns-in_err-run_one-clause-stop g c =
     let place = c.commands.place in
     let cmd = c.in-Some.command.now in
     let old = c.commands.invariant in
-    let rule : AreOrderly commands = orderly m c.requires.manifest in
+    let rule : AreOrderly commands = orderly m c.keeps.ensures in
     let at_place : slice_get commands place ≡ Some cmd = sym c.in-Some.ensures.value in
     let marked : slice_get marks place ≡ Some true = get-read marks place false true c.if-not-is_marked.false c.commands-test.true in
     let named : In cmd commands = In-get commands place cmd at_place in
     let needed : IsNeeded commands wanted cmd = (c.requires.marks.each place cmd at_place).0 marked in
     let settled : (p : List ℕ) → IsInput cmd.inputs p → IsMade commands p → (i : Info) × Knows c.commands.seen p i =
-    inputs_settled wanted rule c.requires.marks old.stands cmd at_place marked (c.requires.manifest.commands cmd named).inputs.files in
+    inputs_settled wanted c.requires.marks old.stands cmd at_place marked (c.requires.built.commands place cmd at_place needed) in
     let one = c.run_one.ensures in
     let before = c.commands.seen.starts in
     let after = c.run_one.new.seen.starts in
@@ -306,13 +309,13 @@ returns-in_err-run_one-clause-read g c =
     let place = c.commands.place in
     let cmd = c.in-Some.command.now in
     let old = c.commands.invariant in
-    let rule : AreOrderly commands = orderly m c.requires.manifest in
+    let rule : AreOrderly commands = orderly m c.keeps.ensures in
     let at_place : slice_get commands place ≡ Some cmd = sym c.in-Some.ensures.value in
     let marked : slice_get marks place ≡ Some true = get-read marks place false true c.if-not-is_marked.false c.commands-test.true in
     let named : In cmd commands = In-get commands place cmd at_place in
     let needed : IsNeeded commands wanted cmd = (c.requires.marks.each place cmd at_place).0 marked in
     let settled : (p : List ℕ) → IsInput cmd.inputs p → IsMade commands p → (i : Info) × Knows c.commands.seen p i =
-    inputs_settled wanted rule c.requires.marks old.stands cmd at_place marked (c.requires.manifest.commands cmd named).inputs.files in
+    inputs_settled wanted c.requires.marks old.stands cmd at_place marked (c.requires.built.commands place cmd at_place needed) in
     let one = c.run_one.ensures in
     let before = c.commands.seen.starts in
     let after = c.run_one.new.seen.starts in
@@ -344,13 +347,13 @@ returns-in_err-run_one-clause-sources g c =
     let place = c.commands.place in
     let cmd = c.in-Some.command.now in
     let old = c.commands.invariant in
-    let rule : AreOrderly commands = orderly m c.requires.manifest in
+    let rule : AreOrderly commands = orderly m c.keeps.ensures in
     let at_place : slice_get commands place ≡ Some cmd = sym c.in-Some.ensures.value in
     let marked : slice_get marks place ≡ Some true = get-read marks place false true c.if-not-is_marked.false c.commands-test.true in
     let named : In cmd commands = In-get commands place cmd at_place in
     let needed : IsNeeded commands wanted cmd = (c.requires.marks.each place cmd at_place).0 marked in
     let settled : (p : List ℕ) → IsInput cmd.inputs p → IsMade commands p → (i : Info) × Knows c.commands.seen p i =
-    inputs_settled wanted rule c.requires.marks old.stands cmd at_place marked (c.requires.manifest.commands cmd named).inputs.files in
+    inputs_settled wanted c.requires.marks old.stands cmd at_place marked (c.requires.built.commands place cmd at_place needed) in
     let one = c.run_one.ensures in
     let before = c.commands.seen.starts in
     let after = c.run_one.new.seen.starts in
@@ -382,13 +385,13 @@ returns-in_err-run_one-clause-missing g c =
     let place = c.commands.place in
     let cmd = c.in-Some.command.now in
     let old = c.commands.invariant in
-    let rule : AreOrderly commands = orderly m c.requires.manifest in
+    let rule : AreOrderly commands = orderly m c.keeps.ensures in
     let at_place : slice_get commands place ≡ Some cmd = sym c.in-Some.ensures.value in
     let marked : slice_get marks place ≡ Some true = get-read marks place false true c.if-not-is_marked.false c.commands-test.true in
     let named : In cmd commands = In-get commands place cmd at_place in
     let needed : IsNeeded commands wanted cmd = (c.requires.marks.each place cmd at_place).0 marked in
     let settled : (p : List ℕ) → IsInput cmd.inputs p → IsMade commands p → (i : Info) × Knows c.commands.seen p i =
-    inputs_settled wanted rule c.requires.marks old.stands cmd at_place marked (c.requires.manifest.commands cmd named).inputs.files in
+    inputs_settled wanted c.requires.marks old.stands cmd at_place marked (c.requires.built.commands place cmd at_place needed) in
     let one = c.run_one.ensures in
     let before = c.commands.seen.starts in
     let after = c.run_one.new.seen.starts in
@@ -425,13 +428,13 @@ commands-preserved g c =
     let place = c.commands.place in
     let cmd = c.in-Some.command.now in
     let old = c.commands.invariant in
-    let rule : AreOrderly commands = orderly m c.requires.manifest in
+    let rule : AreOrderly commands = orderly m c.keeps.ensures in
     let at_place : slice_get commands place ≡ Some cmd = sym c.in-Some.ensures.value in
     let marked : slice_get marks place ≡ Some true = get-read marks place false true c.if-not-is_marked.false c.commands-test.true in
     let named : In cmd commands = In-get commands place cmd at_place in
     let needed : IsNeeded commands wanted cmd = (c.requires.marks.each place cmd at_place).0 marked in
     let settled : (p : List ℕ) → IsInput cmd.inputs p → IsMade commands p → (i : Info) × Knows c.commands.seen p i =
-    inputs_settled wanted rule c.requires.marks old.stands cmd at_place marked (c.requires.manifest.commands cmd named).inputs.files in
+    inputs_settled wanted c.requires.marks old.stands cmd at_place marked (c.requires.built.commands place cmd at_place needed) in
     let one = c.run_one.ensures in
     let before = c.commands.seen.starts in
     let after = c.run_one.new.seen.starts in
@@ -489,4 +492,4 @@ commands-preserved-then-not-is_marked g c =
 pub returns-clause-starts : goal.returns-clause-starts
 returns-clause-starts g c =
     subst (λ (ss : List Start). AreStarts c.args.manifest.now.commands c.args.target.now.nodes ss) (sym c.commands.invariant.starts)
-    (are_starts c.args.manifest.now.commands c.args.target.now.nodes c.args.marks.now c.commands.place (orderly c.args.manifest.now c.requires.manifest) c.requires.marks)
+    (are_starts c.args.manifest.now.commands c.args.target.now.nodes c.args.marks.now c.commands.place (orderly c.args.manifest.now c.keeps.ensures) c.requires.marks)

@@ -158,7 +158,7 @@ returns-in_err-ticket-clause-asked g c =
 
 pub execute-requires-clause-reads : goal.execute-requires-clause-reads
 execute-requires-clause-reads g c κs within =
-    reads_fit (Knows c.gather.new.seen) c.args.command.now.inputs c.in_ok-reads.reads c.requires.sound.served.inputs.files c.in_ok-reads.ensures.reads
+    reads_fit (Knows c.gather.new.seen) c.args.command.now.inputs c.in_ok-reads.reads c.requires.sound.plain.inputs c.in_ok-reads.ensures.reads
 
 pub returns-in_err-ended-clause-heard : goal.returns-in_err-ended-clause-heard
 returns-in_err-ended-clause-heard g c =

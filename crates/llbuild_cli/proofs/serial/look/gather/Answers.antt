@@ -2,7 +2,7 @@ use Rattle.std.proofs.Common.{rules, ◌≡◌, ◌+◌, ◌++◌, ◌∷◌, []
 use Rattle.std.proofs.lemmas.List.{take_more}
 use Rattle.file_info.proofs.Lists.{In-at, In-one, take-drop}
 use Rattle.file_info.specs.Lists.{In}
-use Rattle.manifest_reader.specs.declared.command.Input.{Input}
+use Rattle.build_manifest.specs.declared.command.Input.{Input}
 use Rattle.llbuild_cli.specs.Journal.{Knows}
 use Rattle.llbuild_cli.proofs.ProgressLemmas.{stayed_both, looked_kept, looked_both, looked_stayed, looked_wider, if_err}
 use Rattle.llbuild_cli.proofs.InputLemmas.{read_more, all_read_on, read_stop}
@@ -11,7 +11,7 @@ use Rattle.llbuild_cli.proofs.serial.look.gather.Goals as goal
 pub read_input-requires-clause-file : goal.read_input-requires-clause-file
 read_input-requires-clause-file g c κs within =
     let items = c.as_slice-input-items.result.now in
-    c.requires.files.files c.input-item.result
+    c.requires.files c.input-item.result
     (subst (In c.input-item.result) c.as_slice-input-items.ensures
     (subst (λ (z : Input). In z items) (sym c.input-item.is) (In-at items c.loop-input.input-index c.input-item.result c.loop-input-test.true)))
 

@@ -1,0 +1,6 @@
+// What a target needs, and whether all of it is built today.
+#![tactic(auto)]
+
+mod plain;
+pub mod plan;
+mod reach;
