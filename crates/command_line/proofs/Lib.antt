@@ -1,0 +1,3 @@
+pub mod MatchLemmas
+pub mod NumberLemmas
+pub mod JobLemmas
