@@ -1,6 +1,7 @@
 -- What words ask for, or why they are refused.
-use Rattle.std.specs.Prelude.{ℕ, Bool, true, false, ◌&&◌, if◌then◌else◌, List, [], ◌∷◌, Option, Some, None, Ok, Err, codes, is_some, unwrap_or, not, bytes_eq}
-use Rattle.std.specs.Prelude.{option_map}
+use Rattle.std.specs.Prelude.{ℕ, Bool, true, false, ◌&&◌, if◌then◌else◌, List, [], ◌∷◌, Option, Some, None, Ok, Err, codes}
+use Rattle.std.specs.Prelude.{is_some, unwrap_or, not, bytes_eq, option_map, IfSome, IsTrue}
+use Rattle.std.specs.Str.{is_utf8}
 use Rattle.std.specs.Borrow.{Bor}
 use Rattle.file_info.specs.Path.{normal_form}
 use Rattle.file_info.specs.PathFault.{path_fault}
@@ -178,6 +179,18 @@ if_served job = if is_served job then Ok job else Err faults.NotBuilt
 -- the job that words ask for and that is served, or the first reason why there is none
 unfoldable pub served_job : List Text → Read Job
 served_job words = job_of words >>= if_served
+
+-- a name that is there is UTF-8
+abbrev pub IsText : Option Text → Type 0
+IsText name = IfSome name (λ (t : Text). IsTrue (is_utf8 t))
+
+-- the target that a job names is UTF-8
+abbrev pub NamesText : Job → Type 0
+NamesText (jobs.Build file db serial target settings) = IsText target
+NamesText (jobs.Parse file) = Unit {0}
+NamesText (jobs.Dump db) = Unit {0}
+NamesText (jobs.Rehearse script) = Unit {0}
+NamesText (jobs.Generate number size) = Unit {0}
 
 -- a text that is lent, or none
 abbrev pub text_in : Option (Bor Text) → Option Text

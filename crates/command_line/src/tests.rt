@@ -4,6 +4,7 @@ use crate::words::{job_of, read_words};
 use file_info::list::Bytes;
 use file_info::path::PathName;
 use std::alloc::Global;
+use std::process::Abort;
 use std::test::Fail;
 
 // The words of a command, and the job that they ask for.
@@ -193,51 +194,38 @@ fn said(alloc: Global, answer: &Result<Job, UsageFault>) -> Result<Vec<u8>, Fail
     }
 }
 
-fn asked(alloc: Global, line: &str) -> Result<Vec<u8>, Fail> {
+// What is answered of the words of a line: as `read_words` serves them, or as `job_of` alone.
+fn asked(alloc: Global, line: &str, served: bool) -> Result<Vec<u8>, Fail> {
     let words = words_of(alloc, line)?;
-    said(alloc, &job_of(alloc, words.as_slice()))
+    let answer = if served {
+        read_words(alloc, words.as_slice())
+    } else {
+        job_of(alloc, words.as_slice())
+    };
+    said(alloc, &answer)
 }
 
-fn read(alloc: Global, line: &str) -> Result<Vec<u8>, Fail> {
-    let words = words_of(alloc, line)?;
-    said(alloc, &read_words(alloc, words.as_slice()))
+// Each row of the table has words and, after a bar, what is answered of them.
+fn all_asked(rt: &impl Abort, alloc: Global, table: &str, served: bool) -> Result<(), Fail> {
+    for row in table.lines() {
+        let (line, expected) = row.split_once('|').ok_or("no bar")?;
+        let answer = asked(alloc, line, served)?;
+        assert_eq!(rt; answer.as_slice(), expected.as_bytes(), "{line:?}");
+    }
+    Ok(())
 }
 
 #[test]
 fn words_ask_for_jobs(rt: HostRuntime) -> Result<(), Fail> {
-    for row in JOBS.lines() {
-        let (line, expected) = row.split_once('|').ok_or("no bar")?;
-        assert_eq!(rt;
-            asked(rt.alloc(), line)?.as_slice(),
-            expected.as_bytes(),
-            "{line:?}"
-        );
-    }
-    Ok(())
+    all_asked(&rt, rt.alloc(), JOBS, false)
 }
 
 #[test]
 fn words_are_refused_in_order(rt: HostRuntime) -> Result<(), Fail> {
-    for row in REFUSED.lines() {
-        let (line, expected) = row.split_once('|').ok_or("no bar")?;
-        assert_eq!(rt;
-            asked(rt.alloc(), line)?.as_slice(),
-            expected.as_bytes(),
-            "{line:?}"
-        );
-    }
-    Ok(())
+    all_asked(&rt, rt.alloc(), REFUSED, false)
 }
 
 #[test]
 fn jobs_are_served_or_not_built(rt: HostRuntime) -> Result<(), Fail> {
-    for row in SERVED.lines() {
-        let (line, expected) = row.split_once('|').ok_or("no bar")?;
-        assert_eq!(rt;
-            read(rt.alloc(), line)?.as_slice(),
-            expected.as_bytes(),
-            "{line:?}"
-        );
-    }
-    Ok(())
+    all_asked(&rt, rt.alloc(), SERVED, true)
 }

@@ -1,5 +1,6 @@
 //! The values of options.
-ghost use Rattle.std.specs.Prelude.{◌≡◌, ◌≤◌, Ok, IfOk};
+ghost use Rattle.std.specs.Prelude.{◌≡◌, ◌≤◌, Ok, IfOk, IsTrue};
+ghost use Rattle.std.specs.Str.{is_utf8};
 ghost use Rattle.command_line.specs.Job as spec;
 ghost use Rattle.command_line.specs.Fault.{Answers, IsFault};
 ghost use Rattle.command_line.specs.declared.job.UsageFault.TheVariants as faults;
@@ -12,7 +13,8 @@ use std::alloc::Global;
 
 /// A text as bytes of its own.
 pub fn bytes_of(alloc: Global, text: &str) -> Result<Bytes, UsageFault>
-    ensures { Answers result (Ok text.now) }
+    ensures bytes { Answers result (Ok text.now) }
+    ensures text { IfOk result (λ bytes. IsTrue (is_utf8 bytes)) }
 {
     match Vec::from_slice(alloc, text.as_bytes()) {
         Ok(bytes) => Ok(List::from_vec(bytes)),

@@ -114,7 +114,8 @@ fn clash_of(alloc: Global, words: &BuildWords<'_>) -> Result<(), UsageFault>
 
 // A target's name.
 fn target_for(alloc: Global, given: Option<&str>) -> Result<Option<Bytes>, UsageFault>
-    ensures { Answers result (Ok (spec.text_in given.entry)) }
+    ensures name { Answers result (Ok (spec.text_in given.entry)) }
+    ensures text { IfOk result spec.IsText }
 {
     match given {
         Some(text) => Ok(Some(bytes_of(alloc, text)?)),
@@ -132,7 +133,8 @@ fn unless(no_db: bool, db: PathName) -> Option<PathName>
 // The build that these words ask for.
 #[tactic(auto, unfolding(crate::specs::Job::build_for))]
 fn build_for(alloc: Global, words: &BuildWords<'_>) -> Result<Job, UsageFault>
-    ensures { Answers result (spec.build_for (spec.said_in words.now)) }
+    ensures job { Answers result (spec.build_for (spec.said_in words.now)) }
+    ensures text { IfOk result spec.NamesText }
 {
     let file = file_for(alloc, words.file)?;
     let db = db_for(alloc, words.db)?;
@@ -150,7 +152,8 @@ fn build_for(alloc: Global, words: &BuildWords<'_>) -> Result<Job, UsageFault>
 // The build that these words after the command's own ask for.
 #[tactic(auto, unfolding(crate::specs::Job::build_of))]
 fn build_of(alloc: Global, words: &[String]) -> Result<Job, UsageFault>
-    ensures { Answers result (spec.build_of (map string_bytes words.now)) }
+    ensures job { Answers result (spec.build_of (map string_bytes words.now)) }
+    ensures text { IfOk result spec.NamesText }
 {
     let words = build_words(alloc, words)?;
     build_for(alloc, &words)
@@ -159,7 +162,8 @@ fn build_of(alloc: Global, words: &[String]) -> Result<Job, UsageFault>
 // The printing of a manifest that these words ask for.
 #[tactic(auto, unfolding(crate::specs::Job::parse_of), using(crate::proofs::MatchLemmas::unaccepted))]
 fn parse_of(alloc: Global, words: &[String]) -> Result<Job, UsageFault>
-    ensures { Answers result (spec.parse_of (map string_bytes words.now)) }
+    ensures job { Answers result (spec.parse_of (map string_bytes words.now)) }
+    ensures text { IfOk result spec.NamesText }
 {
     let matches = parse_matches(alloc, words)?;
     let file = file_for(alloc, matches.get_str("-f"))?;
@@ -169,7 +173,8 @@ fn parse_of(alloc: Global, words: &[String]) -> Result<Job, UsageFault>
 // The printing of a database that these words ask for.
 #[tactic(auto, unfolding(crate::specs::Job::dump_of))]
 fn dump_of(alloc: Global, words: &[String]) -> Result<Job, UsageFault>
-    ensures { Answers result (spec.dump_of (map string_bytes words.now)) }
+    ensures job { Answers result (spec.dump_of (map string_bytes words.now)) }
+    ensures text { IfOk result spec.NamesText }
 {
     let matches = dump_matches(alloc, words)?;
     let db = db_for(alloc, matches.get_str("--db"))?;
@@ -179,7 +184,8 @@ fn dump_of(alloc: Global, words: &[String]) -> Result<Job, UsageFault>
 // The rehearsal of a script that these words ask for.
 #[tactic(auto, unfolding(crate::specs::Job::script_of))]
 fn script_of(alloc: Global, words: &[String]) -> Result<Job, UsageFault>
-    ensures { Answers result (spec.script_of (map string_bytes words.now)) }
+    ensures job { Answers result (spec.script_of (map string_bytes words.now)) }
+    ensures text { IfOk result spec.NamesText }
 {
     let matches = rehearse_matches(alloc, words)?;
     let script = path_for(alloc, "SCRIPT", matches.get_str("SCRIPT").unwrap_or(""))?;
@@ -189,7 +195,8 @@ fn script_of(alloc: Global, words: &[String]) -> Result<Job, UsageFault>
 // The script that these words ask for.
 #[tactic(auto, unfolding(crate::specs::Job::generate_of))]
 fn generate_of(alloc: Global, words: &[String]) -> Result<Job, UsageFault>
-    ensures { Answers result (spec.generate_of (map string_bytes words.now)) }
+    ensures job { Answers result (spec.generate_of (map string_bytes words.now)) }
+    ensures text { IfOk result spec.NamesText }
 {
     let matches = generate_matches(alloc, words)?;
     let number = matches.get_str("--generate").unwrap_or("");
@@ -205,7 +212,8 @@ fn generate_of(alloc: Global, words: &[String]) -> Result<Job, UsageFault>
 // The rehearsal that these words ask for.
 #[tactic(auto, unfolding(crate::specs::Job::rehearse_of))]
 fn rehearse_of(alloc: Global, words: &[String]) -> Result<Job, UsageFault>
-    ensures { Answers result (spec.rehearse_of (map string_bytes words.now)) }
+    ensures job { Answers result (spec.rehearse_of (map string_bytes words.now)) }
+    ensures text { IfOk result spec.NamesText }
 {
     match words {
         [first, rest @ ..] if first.as_str() == "--generate" => generate_of(alloc, rest),
@@ -216,7 +224,8 @@ fn rehearse_of(alloc: Global, words: &[String]) -> Result<Job, UsageFault>
 // The job of a command of two words, and of the words after it.
 #[tactic(auto, unfolding(crate::specs::Job::two_words))]
 fn two_words(alloc: Global, first: &str, second: &str, words: &[String]) -> Result<Job, UsageFault>
-    ensures { Answers result (spec.two_words first.now second.now (map string_bytes words.now)) }
+    ensures job { Answers result (spec.two_words first.now second.now (map string_bytes words.now)) }
+    ensures text { IfOk result spec.NamesText }
 {
     match (first, second) {
         ("buildsystem", "build") => build_of(alloc, words),
@@ -230,7 +239,8 @@ fn two_words(alloc: Global, first: &str, second: &str, words: &[String]) -> Resu
 /// `BadNumber` and `BadPath` in the order of the options, and `Exclusive`. It answers a job that is not built yet too.
 #[tactic(auto, unfolding(crate::specs::Job::job_of))]
 pub fn job_of(alloc: Global, words: &[String]) -> Result<Job, UsageFault>
-    ensures { Answers result (spec.job_of (map string_bytes words.now)) }
+    ensures job { Answers result (spec.job_of (map string_bytes words.now)) }
+    ensures text { IfOk result spec.NamesText }
 {
     match words {
         [first, rest @ ..] if first.as_str() == "rehearse" => rehearse_of(alloc, rest),
@@ -259,7 +269,8 @@ fn is_served(job: &Job) -> bool
 /// `buildsystem build` with `--serial` and `--no-db`, without `-v` and `--max-commands`, and `buildsystem parse`.
 #[tactic(auto, unfolding(crate::specs::Job::served_job))]
 pub fn read_words(alloc: Global, words: &[String]) -> Result<Job, UsageFault>
-    ensures { Answers result (spec.served_job (map string_bytes words.now)) }
+    ensures job { Answers result (spec.served_job (map string_bytes words.now)) }
+    ensures text { IfOk result spec.NamesText }
 {
     let job = job_of(alloc, words)?;
     if !is_served(&job) {
