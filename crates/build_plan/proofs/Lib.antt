@@ -1,3 +1,4 @@
 pub mod ReachLemmas
 pub mod PlainLemmas
 pub mod PlanLemmas
+pub mod LaterLemmas

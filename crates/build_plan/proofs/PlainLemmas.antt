@@ -1,5 +1,5 @@
 -- The tests of what is built, and what they say.
-use Rattle.std.proofs.Common.{◌≡◌, ◌≤◌, ◌+◌, ℕ, Bool, true, false, not, ◌&&◌, List, [], ◌∷◌, drop, nat_lt, refl, sym, ap, ◌∙◌, subst, inl, inr, arith, rules}
+use Rattle.std.proofs.Common.{◌≡◌, ◌≤◌, ◌+◌, ℕ, Bool, true, false, not, ◌&&◌, List, [], ◌∷◌, drop, nat_le, refl, sym, ap, ◌∙◌, subst, inl, inr, arith, rules}
 use Rattle.std.specs.Prelude.{◌↔◌, IsTrue, Option, Some, None}
 use Rattle.std.specs.List.{list_all}
 use Rattle.std.specs.Option.{is_none}
@@ -17,11 +17,10 @@ use Rattle.build_manifest.specs.declared.command.Tool.{Tool}
 use Rattle.build_manifest.specs.declared.command.Tool.TheVariants as tools
 use Rattle.build_manifest.specs.Manifest.{IsManifest, ManifestLists}
 use Rattle.build_manifest.specs.Places.{maker_of}
-use Rattle.build_meaning.specs.Fresh.{IsMade}
 use Rattle.build_meaning.proofs.MakerLemmas.{maker_makes, maker_at}
 use Rattle.build_meaning.proofs.OrderlyLemmas.{made_path, path_made}
-use Rattle.build_plan.specs.Built.{IsFileNode, IsFileInput, IsPlain, IsBuiltAt}
-use Rattle.build_plan.specs.Plain.{is_file_node, is_file_form, is_file_input, is_shell, has_none, has_plain_nodes, has_plain_program, has_plain_flags, is_plain, is_before, is_built_at}
+use Rattle.build_plan.specs.Built.{IsFileNode, IsFileInput, IsMadeLater, IsPlain}
+use Rattle.build_plan.specs.Plain.{is_file_node, is_file_form, is_file_input, is_shell, has_none, has_plain_nodes, has_plain_program, has_plain_flags, is_plain, is_from}
 
 -- a test of emptiness
 pub none_test : {A : Type 0} (b : Bool) (xs : List A) → IsTrue b ↔ (xs ≡ []) → b ≡ has_none xs
@@ -104,7 +103,7 @@ pub inputs_are : (is : List Input) → list_all is_file_input is ≡ true → (i
 inputs_are is e i among = input_is i (all_in is_file_input is i among e)
 
 -- a command that passes is plain
-pub plain_is : (c : Command) → is_plain c ≡ true → IsPlain c
+plain_is : (c : Command) → is_plain c ≡ true → IsPlain c
 plain_is c e =
     let last = both (has_plain_nodes c && has_plain_program c) (has_plain_flags c) e in
     let first = both (has_plain_nodes c) (has_plain_program c) last.0 in
@@ -129,7 +128,7 @@ plain_is c e =
     }
 
 -- and a plain command passes
-pub is_plain_command : (c : Command) → IsPlain c → is_plain c ≡ true
+is_plain_command : (c : Command) → IsPlain c → is_plain c ≡ true
 is_plain_command c p =
     let inputs = all_of is_file_input c.inputs (λ i n. is_input i (p.inputs i n)) in
     let outputs = all_of is_file_node c.outputs (λ n o. is_node n (p.outputs n o)) in
@@ -145,10 +144,14 @@ is_plain_command c p =
     let flags : has_plain_flags c ≡ true = together (not c.allow_missing) (not c.always) (ap not p.allow_missing) (ap not p.always) in
     together (has_plain_nodes c && has_plain_program c) (has_plain_flags c) (together (has_plain_nodes c) (has_plain_program c) nodes program) flags
 
+-- the test says whether the command is plain
+pub plain_test : (c : Command) (b : Bool) → b ≡ is_plain c → IsTrue b ↔ IsPlain c
+plain_test c b is = ((λ e. plain_is c (sym is ∙ e)), (λ plain. is ∙ is_plain_command c plain))
+
 file_path : (i : Input) → IsFileInput i → i.node ≡ node.Path (node_text i.node)
 file_path i f = f.node.is ∙ ap (λ (n : NodeName). node.Path (node_text n)) (sym f.node.is)
 
-made_later : (m : ManifestLists) → IsManifest m → (k : ℕ) (i : Input) → IsFileInput i → IsMade (drop k m.commands) (node_text i.node)
+made_later : (m : ManifestLists) → IsManifest m → (k : ℕ) (i : Input) → IsFileInput i → IsMadeLater m.commands k i
     → (j : ℕ) × (k ≤ j) × (maker_of m.commands i.node ≡ Some j)
 made_later m h k i f made =
     let (j, at) = In-index made.by (drop k m.commands) made.named in
@@ -157,56 +160,23 @@ made_later m h k i f made =
     (k + j, omega arith, maker_at m h i.node (k + j) made.by there o)
 
 later_made : (m : ManifestLists) → (k j : ℕ) (i : Input) → IsFileInput i → k ≤ j → maker_of m.commands i.node ≡ Some j
-    → IsMade (drop k m.commands) (node_text i.node)
+    → IsMadeLater m.commands k i
 later_made m k j i f late is =
     let (e, at, o) = maker_makes m.commands i.node j is in
     let output = path_made e (node_text i.node) (subst (λ n. In n e.outputs) (file_path i f) o) in
     record { by = e; named = In-drop-get m.commands k j e at late; output = output }
 
--- the maker of a file stands before a place where nothing from there on makes it
-before_none : (m : ManifestLists) → IsManifest m → (k : ℕ) (i : Input) → IsFileInput i → is_before k (maker_of m.commands i.node) ≡ true
-    → IsMade (drop k m.commands) (node_text i.node) → ⊥
-before_none m h k i f e made =
-    let (j, late, is) = made_later m h k i f made in
-    let before : nat_lt j k ≡ true = ap (is_before k) (sym is) ∙ e in
-    grind (arith, nat_tests)
-
-none_before : (m : ManifestLists) → (k : ℕ) (i : Input) → IsFileInput i → (IsMade (drop k m.commands) (node_text i.node) → ⊥)
-    → is_before k (maker_of m.commands i.node) ≡ true
-none_before m k i f free = go (maker_of m.commands i.node) refl
+-- a test of a maker's place says whether the file is made there or later
+pub later_test : (m : ManifestLists) → IsManifest m → (k : ℕ) (i : Input) → IsFileInput i → (b : Bool)
+    → b ≡ is_from k (maker_of m.commands i.node) → IsTrue b ↔ IsMadeLater m.commands k i
+later_test m h k i f b is = ((λ e. go (maker_of m.commands i.node) refl (sym is ∙ e)), back)
   where
-    late : (b : Bool) (j : ℕ) → nat_lt j k ≡ b → maker_of m.commands i.node ≡ Some j → nat_lt j k ≡ true
-    late true j e is = e
-    late false j e is = let from : k ≤ j = grind (arith, nat_tests) in absurd (free (later_made m k j i f from is))
+    go : (o : Option ℕ) → maker_of m.commands i.node ≡ o → is_from k o ≡ true → IsMadeLater m.commands k i
+    go None at e = cc e
+    go (Some j) at e = later_made m k j i f (grind (arith, nat_tests)) at
 
-    go : (o : Option ℕ) → maker_of m.commands i.node ≡ o → is_before k o ≡ true
-    go None is = refl
-    go (Some j) is = late (nat_lt j k) j refl is
-
--- a command that passes at its place is built there
-pub built_is : (m : ManifestLists) → IsManifest m → (k : ℕ) (c : Command) → is_built_at m.commands k c ≡ true → IsBuiltAt m.commands k c
-built_is m h k c e =
-    let test = λ (i : Input). is_before k (maker_of m.commands i.node) in
-    let parts = both (is_plain c) (list_all test c.inputs) e in
-    let plain = plain_is c parts.0 in
-    record { plain = plain; earlier = λ i n. before_none m h k i (plain.inputs i n) (all_in test c.inputs i n parts.1) }
-
--- and one that is built passes
-pub is_built_command : (m : ManifestLists) → (k : ℕ) (c : Command) → IsBuiltAt m.commands k c → is_built_at m.commands k c ≡ true
-is_built_command m k c b =
-    let test = λ (i : Input). is_before k (maker_of m.commands i.node) in
-    together (is_plain c) (list_all test c.inputs) (is_plain_command c b.plain)
-    (all_of test c.inputs (λ i n. none_before m k i (b.plain.inputs i n) (b.earlier i n)))
-
--- the test says whether the command is built
-pub built_test : (m : ManifestLists) → IsManifest m → (k : ℕ) (c : Command) (b : Bool) → b ≡ is_built_at m.commands k c
-    → IsTrue b ↔ IsBuiltAt m.commands k c
-built_test m h k c b is = ((λ e. built_is m h k c (sym is ∙ e)), (λ built. is ∙ is_built_command m k c built))
-
--- a test whose first part passes
-pub second_decides : (first second : Bool) (p q : Bool) → first ≡ p → first ≡ true → second ≡ q → second ≡ (p && q)
-second_decides first second p q is passes last = last ∙ ap (λ (b : Bool). b && q) (sym passes ∙ is)
-
--- a test whose first part fails
-pub first_decides : (first : Bool) (p q : Bool) → first ≡ p → first ≡ false → first ≡ (p && q)
-first_decides first p q is fails = fails ∙ ap (λ (b : Bool). b && q) (sym fails ∙ is)
+    back : IsMadeLater m.commands k i → b ≡ true
+    back made =
+        let (j, late, at) = made_later m h k i f made in
+        let from : nat_le k j ≡ true = grind (arith, nat_tests) in
+        is ∙ ap (is_from k) at ∙ from

@@ -1,5 +1,5 @@
--- Whether an input, a node or a command is built today, as tests.
-use Rattle.std.specs.Prelude.{◌&&◌, ℕ, Bool, true, false, not, nat_lt, List, [], ◌∷◌, Option, Some, None}
+-- Whether an input, a node or a command is plain, and whether a maker stands late, as tests.
+use Rattle.std.specs.Prelude.{◌&&◌, ℕ, Bool, true, false, not, nat_le, List, [], ◌∷◌, Option, Some, None}
 use Rattle.std.specs.List.{list_all}
 use Rattle.std.specs.Option.{is_none}
 use Rattle.file_info.specs.declared.node.NodeName.{NodeName}
@@ -10,7 +10,6 @@ use Rattle.build_manifest.specs.declared.command.InputForm.{InputForm}
 use Rattle.build_manifest.specs.declared.command.InputForm.TheVariants as form
 use Rattle.build_manifest.specs.declared.command.Tool.{Tool}
 use Rattle.build_manifest.specs.declared.command.Tool.TheVariants as tools
-use Rattle.build_manifest.specs.Places.{maker_of}
 
 -- whether the node is a file
 abbrev pub is_file_node : NodeName → Bool
@@ -58,11 +57,7 @@ has_plain_flags c = not c.allow_missing && not c.always
 abbrev pub is_plain : Command → Bool
 is_plain c = has_plain_nodes c && has_plain_program c && has_plain_flags c
 
--- whether the maker of a node stands before this place, or there is none
-abbrev pub is_before : ℕ → Option ℕ → Bool
-is_before place None = true
-is_before place (Some maker) = nat_lt maker place
-
--- whether the command at this place is plain and reads nothing that it or a later command makes
-abbrev pub is_built_at : List Command → ℕ → Command → Bool
-is_built_at commands place c = is_plain c && list_all (λ (i : Input). is_before place (maker_of commands i.node)) c.inputs
+-- whether the maker of a node stands at this place or after it
+abbrev pub is_from : ℕ → Option ℕ → Bool
+is_from place None = false
+is_from place (Some maker) = nat_le place maker

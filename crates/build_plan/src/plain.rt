@@ -1,12 +1,9 @@
-//! Whether a command is built today.
+//! Whether a command is plain.
 ghost use Rattle.std.specs.Prelude.{◌≡◌, ◌<◌, ◌↔◌, IsTrue, Some, length, slice_get};
 ghost use Rattle.std.specs.List.{list_all};
 ghost use Rattle.build_manifest.specs.declared.command.Command.{Command as Made};
-ghost use Rattle.build_manifest.specs.declared.command.Input.{Input as Asked};
-ghost use Rattle.build_manifest.specs.Manifest.{IsManifest};
-ghost use Rattle.build_manifest.specs.Places.{maker_of};
-ghost use Rattle.build_plan.specs.Built.{IsBuiltAt};
-ghost use Rattle.build_plan.specs.Plain.{has_plain_flags, has_plain_nodes, has_plain_program, is_plain, is_before, is_shell};
+ghost use Rattle.build_plan.specs.Built.{IsPlain};
+ghost use Rattle.build_plan.specs.Plain.{has_plain_flags, has_plain_nodes, has_plain_program, is_plain, is_shell};
 ghost use Rattle.build_plan.specs.Plain.{is_file_form, is_file_input, is_file_node};
 
 use build_manifest::command::{Command, Input, InputForm, Tool};
@@ -100,33 +97,10 @@ fn is_plain(command: &Command) -> bool
     has_plain_nodes(command) && has_plain_program(command) && has_plain_flags(command)
 }
 
-fn is_before(place: usize, maker: Option<usize>) -> bool
-    ensures { result ≡ is_before place maker }
+/// Whether the command at a place is plain.
+pub fn is_plain_at(manifest: &Manifest, place: usize) -> bool
+    requires { place < length manifest.now.commands }
+    ensures { (c : Made) → slice_get manifest.now.commands place ≡ Some c → IsTrue result ↔ IsPlain c }
 {
-    match maker {
-        Some(maker) => maker < place,
-        None => true,
-    }
-}
-
-// Whether the makers of these inputs stand before this place.
-fn are_before(manifest: &Manifest, inputs: &List<Input>, place: usize) -> bool
-    ensures { result ≡ list_all (λ (i : Asked). is_before place (maker_of manifest.now.commands i.node)) inputs.now }
-{
-    for input in inputs.as_slice() {
-        if !is_before(place, manifest.maker(&input.node)) {
-            return false;
-        }
-    }
-    true
-}
-
-/// Whether the command at a place is built.
-pub fn is_built(manifest: &Manifest, place: usize) -> bool
-    requires kept { IsManifest manifest.now }
-    requires within { place < length manifest.now.commands }
-    ensures { (c : Made) → slice_get manifest.now.commands place ≡ Some c → IsTrue result ↔ IsBuiltAt manifest.now.commands place c }
-{
-    let command = manifest.command(place).unwrap();
-    is_plain(command) && are_before(manifest, &command.inputs, place)
+    is_plain(manifest.command(place).unwrap())
 }

@@ -2,8 +2,8 @@
 use Rattle.std.specs.Prelude.{ℕ, ◌+◌, Bool, true, false, if◌then◌else◌, List, [], ◌∷◌, ◌++◌, codes, decimal}
 use Rattle.outside.specs.declared.order.Exit.{Exit}
 use Rattle.outside.specs.declared.order.Exit.TheVariants.{Code, Killed}
-use Rattle.build_report.specs.declared.report.UsageFault.{UsageFault}
-use Rattle.build_report.specs.declared.report.UsageFault.TheVariants as usage
+use Rattle.command_line.specs.declared.job.UsageFault.{UsageFault}
+use Rattle.command_line.specs.declared.job.UsageFault.TheVariants as usage
 use Rattle.build_report.specs.declared.report.Start.{Start}
 use Rattle.build_report.specs.declared.report.End.{End}
 use Rattle.build_report.specs.declared.report.End.TheVariants as ends
@@ -32,20 +32,39 @@ abbrev pub ending_text : Exit → List ℕ
 ending_text (Code status) = codes " ended with status " ++ decimal status
 ending_text Killed = codes " was killed"
 
+-- what a command needs though it or a later one makes it
+abbrev pub later_text : List ℕ → List ℕ → List ℕ
+later_text command node = codes "command " ++ show command ++ codes " needs " ++ show node ++ codes ", which a later command makes"
+
+-- two options that may not stand together
+abbrev pub exclusive_text : List ℕ → List ℕ → List ℕ
+exclusive_text first second = show first ++ codes " excludes " ++ show second
+
 -- why words are refused. Want of memory is an end of its own, and never stands here.
+abbrev pub fault_text : UsageFault → List ℕ
+fault_text usage.NoCommand = codes "no such command"
+fault_text usage.Words = codes "the words are refused"
+fault_text (usage.BadNumber option) = codes "bad number for " ++ show option
+fault_text (usage.BadPath option) = codes "bad path for " ++ show option
+fault_text (usage.Exclusive first second) = exclusive_text first second
+fault_text usage.NotBuilt = codes "not built yet"
+fault_text usage.NoMemory = codes "out of memory"
+
+-- the same, after a word that says what it is about
 abbrev pub usage_text : UsageFault → List ℕ
-usage_text usage.Words = codes "usage: the words are refused"
-usage_text usage.NoMemory = codes "out of memory"
+usage_text fault = codes "usage: " ++ fault_text fault
 
 -- nothing is said of the end: it is success, or standard output failed
 abbrev pub is_silent : {F : Type 0} → End F → Bool
 is_silent ends.Ok = true
 is_silent (ends.CommandFailed command exit) = false
 is_silent (ends.MissingInput asker node) = false
+is_silent (ends.LaterMaker command node) = false
 is_silent (ends.Usage fault) = false
 is_silent (ends.NoFile path) = false
 is_silent (ends.Manifest error) = false
 is_silent (ends.UnknownTarget name) = false
+is_silent ends.NoDefault = false
 is_silent (ends.NotBuilt asker) = false
 is_silent ends.DiskFault = false
 is_silent (ends.HostFault command fault) = false
@@ -57,10 +76,12 @@ abbrev pub end_text : {F : Type 0} → End F → List ℕ
 end_text ends.Ok = []
 end_text (ends.CommandFailed command exit) = codes "command " ++ show command ++ ending_text exit
 end_text (ends.MissingInput asker node) = show asker ++ codes " needs " ++ show node ++ codes ", which is missing"
+end_text (ends.LaterMaker command node) = later_text command node
 end_text (ends.Usage fault) = usage_text fault
 end_text (ends.NoFile path) = codes "no file " ++ show path
 end_text (ends.Manifest error) = codes "manifest: " ++ load_text error
 end_text (ends.UnknownTarget name) = codes "unknown target " ++ show name
+end_text ends.NoDefault = codes "no default target"
 end_text (ends.NotBuilt asker) = show asker ++ codes " uses what is not built yet"
 end_text ends.DiskFault = codes "the disk failed"
 end_text (ends.HostFault command fault) = codes "command " ++ show command ++ codes " could not be run"

@@ -1,4 +1,5 @@
 //! What a run did and how it ended.
+use command_line::job::UsageFault;
 use file_info::info::Info;
 use file_info::list::{Bytes, List};
 use file_info::name::Name;
@@ -57,15 +58,6 @@ pub struct Heard {
     pub outcome: Outcome,
 }
 
-/// Why words are no command line.
-#[derive(Clone, Copy, Debug, PartialEq, Eq)]
-pub enum UsageFault {
-    /// They are not of the form that is served.
-    Words,
-    /// No memory was left.
-    NoMemory,
-}
-
 /// How a run ended. `F` is the fault of a host of programs.
 #[derive(Drop)]
 pub enum End<F> {
@@ -75,7 +67,9 @@ pub enum End<F> {
     CommandFailed { command: Name, exit: Exit },
     /// A command or target needs a node that is missing, named as the manifest writes it.
     MissingInput { asker: Name, node: Name },
-    /// The words are no command line.
+    /// A command of the target reads what it or a later command makes, named as the manifest writes it.
+    LaterMaker { command: Name, node: Name },
+    /// The words ask for no job that is served.
     Usage(UsageFault),
     /// The manifest is missing or no file.
     NoFile { path: PathName },
@@ -83,6 +77,8 @@ pub enum End<F> {
     Manifest(LoadError),
     /// The manifest has no target of this name.
     UnknownTarget { name: Bytes },
+    /// No target was named, and the manifest has no default.
+    NoDefault,
     /// The target, or a command that it needs, uses what is not built yet.
     NotBuilt { asker: Name },
     /// The disk or the world failed.

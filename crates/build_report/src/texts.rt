@@ -1,12 +1,15 @@
 //! The texts that are printed.
 ghost use Rattle.std.specs.Prelude.{◌≡◌, ◌++◌, IfOk, OnOk, codes, decimal};
 ghost use Rattle.build_report.specs.Escape.{show};
-ghost use Rattle.build_report.specs.Text.{end_text, ending_text, failure_text, is_silent, line_of, summary_text, usage_text};
+ghost use Rattle.build_report.specs.Text.{end_text, ending_text, exclusive_text, failure_text, fault_text, is_silent, later_text};
+ghost use Rattle.build_report.specs.Text.{line_of, summary_text, usage_text};
 ghost use Rattle.build_report.specs.Status.{status_of};
 
 use crate::refused::push_load_error;
-use crate::report::{End, Start, UsageFault};
+use crate::report::{End, Start};
 use crate::shown::{push_named, push_shown};
+use command_line::job::UsageFault;
+use file_info::list::Bytes;
 use file_info::memory::NoMemory;
 use file_info::name::Name;
 use outside::order::Exit;
@@ -61,13 +64,51 @@ fn push_missing(out: &mut Vec<u8>, asker: &Name, node: &Name) -> Result<(), Allo
     out.extend_from_slice(b", which is missing")
 }
 
-fn push_usage(out: &mut Vec<u8>, fault: UsageFault) -> Result<(), AllocError>
-    ensures { OnOk result (out.new.items ≡ out.old.items ++ usage_text fault) }
+// What a command reads though it or a later one makes it.
+fn push_later(out: &mut Vec<u8>, command: &Name, node: &Name) -> Result<(), AllocError>
+    ensures { OnOk result (out.new.items ≡ out.old.items ++ later_text command.now node.now) }
+{
+    out.extend_from_slice(b"command ")?;
+    push_shown(out, command.text().as_bytes())?;
+    out.extend_from_slice(b" needs ")?;
+    push_shown(out, node.text().as_bytes())?;
+    out.extend_from_slice(b", which a later command makes")
+}
+
+// Two options that may not stand together.
+fn push_exclusive(out: &mut Vec<u8>, first: &Bytes, second: &Bytes) -> Result<(), AllocError>
+    ensures { OnOk result (out.new.items ≡ out.old.items ++ exclusive_text first.now second.now) }
+{
+    push_named(out, b"", first.as_slice(), b" excludes ")?;
+    push_shown(out, second.as_slice())
+}
+
+// Why words are refused.
+fn push_fault(out: &mut Vec<u8>, fault: &UsageFault) -> Result<(), AllocError>
+    ensures { OnOk result (out.new.items ≡ out.old.items ++ fault_text fault.now) }
 {
     match fault {
-        UsageFault::Words => out.extend_from_slice(b"usage: the words are refused"),
+        UsageFault::NoCommand => out.extend_from_slice(b"no such command"),
+        UsageFault::Words => out.extend_from_slice(b"the words are refused"),
+        UsageFault::BadNumber { option } => push_named(
+            out,
+            b"bad number for ",
+            option.as_slice(),
+            b"",
+        ),
+        UsageFault::BadPath { option } => push_named(out, b"bad path for ", option.as_slice(), b""),
+        UsageFault::Exclusive { first, second } => push_exclusive(out, first, second),
+        UsageFault::NotBuilt => out.extend_from_slice(b"not built yet"),
         UsageFault::NoMemory => out.extend_from_slice(b"out of memory"),
     }
+}
+
+// The same, after a word that says what it is about.
+fn push_usage(out: &mut Vec<u8>, fault: &UsageFault) -> Result<(), AllocError>
+    ensures { OnOk result (out.new.items ≡ out.old.items ++ usage_text fault.now) }
+{
+    out.extend_from_slice(b"usage: ")?;
+    push_fault(out, fault)
 }
 
 // Whether nothing is said of an end.
@@ -84,13 +125,15 @@ fn push_end<F>(alloc: Global, out: &mut Vec<u8>, end: &End<F>) -> Result<(), All
         End::Ok | End::SinkFault => Ok(()),
         End::CommandFailed { command, exit } => push_exit(alloc, out, command, *exit),
         End::MissingInput { asker, node } => push_missing(out, asker, node),
-        End::Usage(fault) => push_usage(out, *fault),
+        End::LaterMaker { command, node } => push_later(out, command, node),
+        End::Usage(fault) => push_usage(out, fault),
         End::NoFile { path } => push_named(out, b"no file ", path.text().as_bytes(), b""),
         End::Manifest(error) => {
             out.extend_from_slice(b"manifest: ")?;
             push_load_error(alloc, out, error)
         }
         End::UnknownTarget { name } => push_named(out, b"unknown target ", name.as_slice(), b""),
+        End::NoDefault => out.extend_from_slice(b"no default target"),
         End::NotBuilt { asker } => {
             push_named(
                 out,
@@ -130,11 +173,12 @@ pub fn status<F>(end: &End<F>) -> u8
 {
     match end {
         End::Ok => 0,
-        End::CommandFailed { .. } | End::MissingInput { .. } => 1,
+        End::CommandFailed { .. } | End::MissingInput { .. } | End::LaterMaker { .. } => 1,
         End::Usage(_)
         | End::NoFile { .. }
         | End::Manifest(_)
         | End::UnknownTarget { .. }
+        | End::NoDefault
         | End::NotBuilt { .. } => 2,
         End::DiskFault | End::HostFault { .. } | End::SinkFault => 3,
         End::NoMemory => 5,

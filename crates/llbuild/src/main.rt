@@ -5,7 +5,7 @@ ghost use Rattle.std.specs.Prelude.{◌≡◌};
 ghost use Rattle.std.specs.Process.{exit_status};
 
 use build_report::report::Finish;
-use llbuild_cli::run::run_alone;
+use llbuild_cli::run::{refuse_words, run_alone};
 use memory_world::toy::ToyLaw;
 use outside::world::NoFault;
 use real_world::std_sink::StdSink;
@@ -20,26 +20,28 @@ fn exit_code(finish: &Finish<NoFault>) -> ExitCode
     ExitCode::from(finish.status)
 }
 
-// The words after the program's name. Where one of them is not UTF-8 they ask for nothing, so there are none.
-fn words_of(rt: &HostRuntime) -> io::Result<Vec<String>> {
+// The words after the program's name. None where one of them is not UTF-8.
+fn words_of(rt: &HostRuntime) -> io::Result<Option<Vec<String>>> {
     let mut words = Vec::new(rt.alloc());
     match env::args(rt) {
         Ok(args) => {
             for word in args.skip(1) {
                 words.push(word)?;
             }
-            Ok(words)
+            Ok(Some(words))
         }
-        Err(error) if error.kind() == io::ErrorKind::InvalidData => Ok(words),
+        Err(error) if error.kind() == io::ErrorKind::InvalidData => Ok(None),
         Err(error) => Err(error),
     }
 }
 
 fn main(rt: HostRuntime) -> io::Result<ExitCode> {
-    let words = words_of(&rt)?;
+    let mut err = StdSink::new(rt.stderr());
+    let Some(words) = words_of(&rt)? else {
+        return Ok(exit_code(&refuse_words(rt.alloc(), &mut err)));
+    };
     let mut world = RealWorld::new(rt);
     let mut out = StdSink::new(rt.stdout());
-    let mut err = StdSink::new(rt.stderr());
     let finish = run_alone::<ToyLaw, _, _, _>(
         rt.alloc(),
         words.as_slice(),

@@ -23,16 +23,50 @@ use std::test::Fail;
 const LINE: &str = "buildsystem build --serial --no-db -f m.llbuild all";
 
 // One command, which makes `t` of `s`.
-const ONE: &str =
-    "client:\n  name: basic\ntargets:\n  all: [t]\ncommands:\n  p:\n    tool: shell\n    inputs: [s]\n    outputs: [t]\n    args: [cp, s, t]\n";
+const ONE: &str = "client:
+  name: basic
+targets:
+  all: [t]
+commands:
+  p:
+    tool: shell
+    inputs: [s]
+    outputs: [t]
+    args: [cp, s, t]
+";
 
 // The same command, and a target that needs a source besides.
-const WIDE: &str =
-    "client: {name: basic}\ntargets: {all: [t, ./u]}\ncommands:\n  p: {tool: shell, inputs: [s], outputs: [t], args: [cp, s, t]}\n";
+const WIDE: &str = "client: {name: basic}
+targets: {all: [t, ./u]}
+commands:
+  p: {tool: shell, inputs: [s], outputs: [t], args: [cp, s, t]}
+";
+
+// The same command for the default target, and another target.
+const DEFAULT: &str = "client: {name: basic}
+targets: {none: [s], all: [t]}
+default: all
+commands:
+  p: {tool: shell, inputs: [s], outputs: [t], args: [cp, s, t]}
+";
+
+// A command before the maker of one of its inputs.
+const LATER: &str = "client: {name: basic}
+targets: {all: [t]}
+commands:
+  p: {tool: shell, inputs: [s, u], outputs: [t], args: [cat, s, u]}
+  q: {tool: shell, outputs: [u], args: [make, u]}
+";
 
 // A chain of three commands, two of which need `s`, and one that the target does not need.
-const CHAIN: &str =
-    "client: {name: basic}\ntargets: {all: [c], rest: [d]}\ncommands:\n  first: {tool: shell, outputs: [a], args: [make, a]}\n  rest: {tool: shell, inputs: [a], outputs: [d], args: [cp, a, d]}\n  second: {tool: shell, inputs: [a, s], outputs: [b], args: [cat, a, s]}\n  third: {tool: shell, inputs: [b, s], outputs: [c], args: [cat, b, s]}\n";
+const CHAIN: &str = "client: {name: basic}
+targets: {all: [c], rest: [d]}
+commands:
+  first: {tool: shell, outputs: [a], args: [make, a]}
+  rest: {tool: shell, inputs: [a], outputs: [d], args: [cp, a, d]}
+  second: {tool: shell, inputs: [a, s], outputs: [b], args: [cat, a, s]}
+  third: {tool: shell, inputs: [b, s], outputs: [c], args: [cat, b, s]}
+";
 
 const CHAIN_OUT: &str = "[1] first\n[2] second\n[3] third\nok: 3 started\n";
 
@@ -126,10 +160,12 @@ fn end_name(end: &End<NoFault>) -> &'static str {
         End::Ok => "Ok",
         End::CommandFailed { .. } => "CommandFailed",
         End::MissingInput { .. } => "MissingInput",
+        End::LaterMaker { .. } => "LaterMaker",
         End::Usage(_) => "Usage",
         End::NoFile { .. } => "NoFile",
         End::Manifest(_) => "Manifest",
         End::UnknownTarget { .. } => "UnknownTarget",
+        End::NoDefault => "NoDefault",
         End::NotBuilt { .. } => "NotBuilt",
         End::DiskFault => "DiskFault",
         End::HostFault { .. } => "HostFault",
@@ -214,37 +250,52 @@ fn needed_commands_are_built(rt: HostRuntime) -> Result<(), Fail> {
     Ok(())
 }
 
-// Runs that end with another end than `Ok`, one a line: the manifest, the text of `s` or `-` for no such file, the words,
-// and then the end, the status, and what is written on `out` and on `err`. A `;` stands for the end of a line.
+// Runs, one a line: the manifest, the text of `s` or `-` for no such file, the words, and then the end, the status, and what is
+// written on `out` and on `err`. A `;` stands for the end of a line.
 const ENDS: &str = "\
 one|-|buildsystem build --serial --no-db -f m.llbuild all|MissingInput|1||error: p needs s, which is missing;
 wide|one|buildsystem build --serial --no-db -f m.llbuild all|MissingInput|1|[1] p;|error: all needs ./u, which is missing;
 one|fail|buildsystem build --serial --no-db -f m.llbuild all|CommandFailed|1|[1] p;|error: command p ended with status 1;
 chain|fail|buildsystem build --serial --no-db -f m.llbuild all|CommandFailed|1|[1] first;[2] second;|error: command second ended with status 1;
+later|one|buildsystem build --serial --no-db -f m.llbuild all|LaterMaker|1||error: command p needs u, which a later command makes;
+later|-|buildsystem build --serial --no-db -f m.llbuild all|LaterMaker|1||error: command p needs u, which a later command makes;
 short|-|buildsystem build --serial --no-db -f m.llbuild all|UnknownTarget|2||error: unknown target all;
 other|-|buildsystem build --serial --no-db -f m.llbuild all|Manifest|2||error: manifest: wrong client other version 0;
 alias|-|buildsystem build --serial --no-db -f m.llbuild all|Manifest|2||error: manifest: left out at byte 8: alias;
-one|one||Usage|2||error: usage: the words are refused;
-one|one|buildsystem build --serial --no-db -f m.llbuild|Usage|2||error: usage: the words are refused;
-one|one|buildsystem build --serial --no-db -f m.llbuild all t|Usage|2||error: usage: the words are refused;
-one|one|buildsystem build --serial -f m.llbuild all|Usage|2||error: usage: the words are refused;
-one|one|buildsystem build --no-db --serial -f m.llbuild all|Usage|2||error: usage: the words are refused;
-one|one|buildsystem build --serial --no-db -j m.llbuild all|Usage|2||error: usage: the words are refused;
-one|one|buildsystem Build --serial --no-db -f m.llbuild all|Usage|2||error: usage: the words are refused;
-one|one|build build --serial --no-db -f m.llbuild all|Usage|2||error: usage: the words are refused;
-one|one|buildsystem build --serial --no-db -f  all|Usage|2||error: usage: the words are refused;
-one|one|buildsystem build --serial --no-db -f /.. all|Usage|2||error: usage: the words are refused;
+one|one|buildsystem build --no-db --serial all -f m.llbuild|Ok|0|[1] p;ok: 1 started;|
+default|one|buildsystem build --serial --no-db -f m.llbuild|Ok|0|[1] p;ok: 1 started;|
+default|one|buildsystem build --serial --no-db -f m.llbuild none|Ok|0|ok: 0 started;|
+default|-|buildsystem build --serial --no-db -f m.llbuild|MissingInput|1||error: p needs s, which is missing;
+one|one|buildsystem build --serial --no-db -f m.llbuild|NoDefault|2||error: no default target;
+one|one|buildsystem build --serial --no-db -f m.llbuild nope|UnknownTarget|2||error: unknown target nope;
+one|-|buildsystem build --serial --no-db -f m.llbuild |UnknownTarget|2||error: unknown target ;
+one|one|buildsystem build --serial --no-db|NoFile|2||error: no file build.llbuild;
 one|one|buildsystem build --serial --no-db -f ./other//m.llbuild all|NoFile|2||error: no file other/m.llbuild;
 one|one|buildsystem build --serial --no-db -f . all|NoFile|2||error: no file .;
-one|one|buildsystem build --serial --no-db -f m.llbuild t|UnknownTarget|2||error: unknown target t;
-one|-|buildsystem build --serial --no-db -f m.llbuild |UnknownTarget|2||error: unknown target ;";
+one|one||Usage|2||error: usage: no such command;
+one|one|buildsystem Build --serial --no-db -f m.llbuild all|Usage|2||error: usage: no such command;
+one|one|buildsystem build --serial --no-db -f m.llbuild all t|Usage|2||error: usage: the words are refused;
+one|one|buildsystem build -j 0|Usage|2||error: usage: bad number for -j;
+one|one|buildsystem build --serial --no-db -f /.. all|Usage|2||error: usage: bad path for -f;
+one|one|buildsystem build --serial --no-db -j 2 -f m.llbuild all|Usage|2||error: usage: --serial excludes -j;
+one|one|buildsystem build --serial -f m.llbuild all|Usage|2||error: usage: not built yet;
+one|one|buildsystem build --no-db -f m.llbuild all|Usage|2||error: usage: not built yet;
+one|one|db dump|Usage|2||error: usage: not built yet;
+one|-|buildsystem parse|NoFile|2||error: no file build.llbuild;
+one|-|buildsystem parse -f|Usage|2||error: usage: the words are refused;
+other|-|buildsystem parse -f m.llbuild|Manifest|2||error: manifest: wrong client other version 0;
+alias|-|buildsystem parse -f m.llbuild|Manifest|2||error: manifest: left out at byte 8: alias;
+row|-|buildsystem parse -f m.llbuild|Ok|0|\"client\":;  \"name\": \"basic\";\"targets\":;  \"all\": [\"a\", \"b c\"];|";
 
 // The manifest of a name in `ENDS`.
 fn manifest_named(name: &str) -> &'static str {
     match name {
         "one" => ONE,
         "wide" => WIDE,
+        "default" => DEFAULT,
+        "later" => LATER,
         "chain" => CHAIN,
+        "row" => "client: {name: basic}\ntargets: {all: [a, 'b c']}\n",
         "short" => "client: {name: basic}\n",
         "other" => "client: {name: other}\n",
         _ => "client: *name\n",
@@ -283,7 +334,7 @@ fn is_as(
 }
 
 #[test]
-fn failures_have_their_ends(rt: HostRuntime) -> Result<(), Fail> {
+fn runs_have_their_ends(rt: HostRuntime) -> Result<(), Fail> {
     for row in ENDS.lines() {
         let mut row = row.split('|');
         let manifest = manifest_named(cell(&mut row));
@@ -319,6 +370,7 @@ targets:
   beside: [t]
   line: [u]
   shown: [w]
+  mixed: [e, i]
 commands:
   sets: {tool: shell, outputs: [a], args: [make, a], env: {K: v}}
   follows: {tool: shell, outputs: [b], args: [make, b], must-follow: [s]}
@@ -347,8 +399,9 @@ tree|NotBuilt|2||error: tree uses what is not built yet;
 env|NotBuilt|2||error: sets uses what is not built yet;
 follow|NotBuilt|2||error: follows uses what is not built yet;
 input|NotBuilt|2||error: lists uses what is not built yet;
-later|NotBuilt|2||error: early uses what is not built yet;
-own|NotBuilt|2||error: turns uses what is not built yet;
+later|LaterMaker|1||error: command early needs f, which a later command makes;
+own|LaterMaker|1||error: command turns needs o, which a later command makes;
+mixed|NotBuilt|2||error: bare uses what is not built yet;
 missing|NotBuilt|2||error: sets uses what is not built yet;
 apart|NotBuilt|2||error: bare uses what is not built yet;
 deps|NotBuilt|2||error: tells uses what is not built yet;
@@ -369,7 +422,7 @@ fn run_wider(alloc: Global, target: &str) -> Result<Ran, Fail> {
 }
 
 #[test]
-fn what_is_not_built_is_told(rt: HostRuntime) -> Result<(), Fail> {
+fn targets_have_their_ends(rt: HostRuntime) -> Result<(), Fail> {
     for row in WIDER_ENDS.lines() {
         let mut row = row.split('|');
         let ran = run_wider(rt.alloc(), cell(&mut row))?;
@@ -443,6 +496,63 @@ fn out_has_little_room(rt: HostRuntime) -> Result<(), Fail> {
     Ok(())
 }
 
+// What is printed of the manifest `ONE`.
+const SPELLED: &str = "\"client\":
+  \"name\": \"basic\"
+\"targets\":
+  \"all\": [\"t\"]
+\"commands\":
+  \"p\":
+    \"tool\": \"shell\"
+    \"inputs\": [\"s\"]
+    \"outputs\": [\"t\"]
+    \"args\": [\"cp\", \"s\", \"t\"]
+";
+
+// The printing of `ONE` with so much room on `out`, of which these puts fail.
+fn printed(alloc: Global, room: usize, out_fails: &[u64]) -> Result<Ran, Fail> {
+    let setting = Setting {
+        room,
+        out_fails,
+        ..without_faults(ONE, None, "buildsystem parse -f m.llbuild")
+    };
+    run(alloc, &setting)
+}
+
+// The printing of `ONE` with so much room on `out`, of which these puts fail, ends so and has written this.
+fn prints(
+    rt: &impl Abort,
+    alloc: Global,
+    out: (usize, &[u64]),
+    end: &str,
+    written: &[u8],
+) -> Result<(), Fail> {
+    let ran = printed(alloc, out.0, out.1)?;
+    assert_eq!(rt; end_name(&ran.finish.report.end), end);
+    assert_eq!(rt; ran.out.bytes(), written);
+    assert_eq!(rt; ran.err.bytes(), b"".as_slice());
+    Ok(())
+}
+
+#[test]
+fn trees_are_printed(rt: HostRuntime) -> Result<(), Fail> {
+    prints(&rt, rt.alloc(), (1000, &[]), "Ok", SPELLED.as_bytes())
+}
+
+#[test]
+fn trees_are_printed_in_part(rt: HostRuntime) -> Result<(), Fail> {
+    for room in 0..SPELLED.len() {
+        let part = &SPELLED.as_bytes()[..room];
+        prints(&rt, rt.alloc(), (room, &[]), "SinkFault", part)?;
+    }
+    Ok(())
+}
+
+#[test]
+fn nothing_is_printed_at_a_fault(rt: HostRuntime) -> Result<(), Fail> {
+    prints(&rt, rt.alloc(), (1000, &[1]), "SinkFault", b"")
+}
+
 // A fault of `err` changes no end.
 #[test]
 fn err_fails(rt: HostRuntime) -> Result<(), Fail> {
@@ -462,8 +572,16 @@ const REAL_FILE: &str = "llbuild_test.llbuild";
 const REAL_OUTPUT: &str = "llbuild_test.o";
 
 // A target for each way in which a real command can end.
-const REAL: &str =
-    "client: {name: basic}\ntargets: {good: [llbuild_test.o], bad: [a], killed: [b], unknown: [c], missing: [d], line: [e]}\ncommands:\n  touch: {tool: shell, outputs: [llbuild_test.o], args: [touch, llbuild_test.o]}\n  false: {tool: shell, outputs: [a], args: ['false']}\n  kill: {tool: shell, outputs: [b], args: [sh, -c, 'kill -9 $$']}\n  unknown: {tool: shell, outputs: [c], args: [llbuild_test_of_no_program]}\n  copy: {tool: shell, inputs: [llbuild_test_of_no_source], outputs: [d], args: [cp, s, d]}\n  exit: {tool: shell, outputs: [e], args: exit 3}\n";
+const REAL: &str = "client: {name: basic}
+targets: {good: [llbuild_test.o], bad: [a], killed: [b], unknown: [c], missing: [d], line: [e]}
+commands:
+  touch: {tool: shell, outputs: [llbuild_test.o], args: [touch, llbuild_test.o]}
+  false: {tool: shell, outputs: [a], args: ['false']}
+  kill: {tool: shell, outputs: [b], args: [sh, -c, 'kill -9 $$']}
+  unknown: {tool: shell, outputs: [c], args: [llbuild_test_of_no_program]}
+  copy: {tool: shell, inputs: [llbuild_test_of_no_source], outputs: [d], args: [cp, s, d]}
+  exit: {tool: shell, outputs: [e], args: exit 3}
+";
 
 // A target of `REAL` a line, the end of a run that builds it, the status, and what is written on `out` and on `err`.
 const REAL_ENDS: &str = "\

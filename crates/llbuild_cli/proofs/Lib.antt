@@ -1,5 +1,4 @@
 pub mod SinkLemmas
-pub mod JobLemmas
 pub mod ProgressLemmas
 pub mod JournalLemmas
 pub mod InputLemmas
@@ -16,3 +15,4 @@ pub mod DidLemmas
 pub mod OpenLemmas
 pub mod RunLemmas
 pub mod MemoryLemmas
+pub mod CompleteLemmas

@@ -1,6 +1,6 @@
 -- How a manifest is opened, or refused.
 use Rattle.std.proofs.Common.{◌≡◌, ◌⊎◌, ◌∙◌, ℕ, List, sym, ap, refl, subst, inl, inr}
-use Rattle.std.specs.Prelude.{Some, None, Err, IsErrOf}
+use Rattle.std.specs.Prelude.{Option, Some, Ok, Err, None, IfErr, IfOk, IsErrOf, Result}
 use Rattle.outside.specs.View.{DiskView, DiskFailed, Keeps}
 use Rattle.outside.specs.declared.disk.FileBytes.{FileBytes}
 use Rattle.outside.specs.declared.disk.FileBytes.TheVariants.{Bytes}
@@ -11,37 +11,56 @@ use Rattle.manifest_reader.specs.declared.error.LoadError.{LoadError}
 use Rattle.manifest_reader.specs.declared.error.LoadError.TheVariants as load
 use Rattle.manifest_reader.specs.Load.{loaded}
 use Rattle.build_manifest.specs.Manifest.{ManifestLists}
-use Rattle.build_manifest.specs.Places.{target_named}
-use Rattle.build_plan.specs.Built.{IsAsker, IsBuilt}
+use Rattle.build_plan.specs.Built.{IsBuilt}
+use Rattle.build_plan.specs.Unbuilt as why
 use Rattle.build_plan.specs.declared.plan.Unbuilt.{Unbuilt}
-use Rattle.build_plan.specs.declared.plan.Unbuilt.TheVariants as unbuilt
+use Rattle.build_plan.specs.declared.plan.Unbuilt.TheVariants as unbuilts
+use Rattle.command_line.specs.Fault.{Fails, Read}
+use Rattle.command_line.specs.declared.job.Job.{Job}
+use Rattle.command_line.specs.declared.job.UsageFault.{UsageFault}
+use Rattle.command_line.specs.declared.job.UsageFault.TheVariants as faults
 use Rattle.llbuild_cli.specs.declared.refusal.Refusal.{Refusal}
 use Rattle.llbuild_cli.specs.declared.refusal.Refusal.TheVariants as refusals
-use Rattle.llbuild_cli.specs.declared.words.Job.{Job}
-use Rattle.build_report.specs.declared.report.UsageFault.TheVariants.{Words}
-use Rattle.llbuild_cli.specs.Open.{disk_refusal, load_refusal, IsUnread, IsUnloaded, IsUnbuilt, IsOpened, asks, unplanned, failed, no_memory, refused}
+use Rattle.llbuild_cli.specs.Course as courses
+use Rattle.llbuild_cli.specs.Course.{IsNoJob, misused}
+use Rattle.llbuild_cli.specs.Open as opens
+use Rattle.llbuild_cli.specs.Open.{disk_refusal, load_refusal, usage_refusal, IsUnloaded, IsUnbuilt, IsOpened, refused, no_memory}
 use Rattle.llbuild_cli.specs.Plan as plans
-use Rattle.llbuild_cli.specs.Plan.{Gave, IsAnswer, FileAnswer, IsPlan, IsRefusal, plan_of, plan_loaded, plan_named}
-use Rattle.llbuild_cli.specs.Job.{job_of}
+use Rattle.llbuild_cli.specs.Plan.{Gave, IsAnswer, IsPlan, IsPlanOf, IsUnopened, IsUnplanned, Plan, build_job, manifest_in, no_target, of_load}
+use Rattle.llbuild_cli.specs.Plan.{plan_from, plan_of, plan_with, target_in}
 
 -- words that are no job
-pub words_refused : (gave : Gave) (old new : DiskView) (words : List (List ℕ)) (refusal : Refusal)
-    → (refusal ≡ refusals.NoMemory) ⊎ ((refusal ≡ refusals.Usage Words) × (job_of words ≡ None)) → IsRefusal gave old new words refusal
-words_refused gave old new words refusal (inl same) = subst (λ (r : Refusal). IsRefusal gave old new words r) (sym same) plans.no_memory
-words_refused gave old new words refusal (inr why) = subst (λ (r : Refusal). IsRefusal gave old new words r) (sym why.0) (plans.usage why.1)
+pub no_job : (job : Read Job) (fault : UsageFault) → Fails fault job → IsNoJob job (usage_refusal fault)
+no_job job faults.NoCommand is = misused is
+no_job job faults.Words is = misused is
+no_job job (faults.BadNumber option) is = misused is
+no_job job (faults.BadPath option) is = misused is
+no_job job (faults.Exclusive first second) is = misused is
+no_job job faults.NotBuilt is = misused is
+no_job job faults.NoMemory is = courses.no_memory
 
--- bytes that were not read
-pub read_refused : (gave : Gave) (old new : DiskView) (words : List (List ℕ)) (job : Job) (refusal : Refusal) → job_of words ≡ Some job → IsUnread gave old new job refusal → IsRefusal gave old new words refusal
-read_refused gave old new words job _ is (unplanned answer read why) = plans.unplanned (record { asked = record { job = job; is = is; answer = answer; read = read }; is = why })
-read_refused gave old new words job _ is (failed rose) = plans.failed (record { job = job; is = is }) rose
-read_refused gave old new words job _ is no_memory = plans.no_memory
+-- a disk that gave no answer
+pub disk_unopened : (gave : Gave) (old new : DiskView) (file : List ℕ) (error : DiskError)
+    → (IsErrOf {T = FileBytes} (Err error) disks.NotDirectory → ⊥) → (IsErrOf {T = FileBytes} (Err error) disks.Fault → DiskFailed old new)
+    → IsUnopened gave old new file (disk_refusal error)
+disk_unopened gave old new file disks.Fault here rose = plans.failed (rose refl)
+disk_unopened gave old new file disks.NotDirectory here rose = absurd (here refl)
+disk_unopened gave old new file disks.NoMemory here rose = plans.no_memory
+
+-- no file where the manifest is due
+pub file_unopened : (gave : Gave) (old new : DiskView) (file : List ℕ) (answer : FileBytes) (refusal : Refusal) → IsAnswer gave old new file answer
+    → manifest_in file answer ≡ Err (refusals.NoFile file) → (refusal ≡ refusals.NoFile file) ⊎ (refusal ≡ refusals.NoMemory)
+    → IsUnopened gave old new file refusal
+file_unopened gave old new file answer refusal read is (inl same) =
+    subst (λ (r : Refusal). IsUnopened gave old new file r) (sym same) (plans.refused answer read is)
+file_unopened gave old new file answer refusal read is (inr none) =
+    subst (λ (r : Refusal). IsUnopened gave old new file r) (sym none) plans.no_memory
 
 -- a manifest that was not loaded
-pub load_refused : (gave : Gave) (old new : DiskView) (words : List (List ℕ)) (job : Job) (bytes : List ℕ) (refusal : Refusal) → job_of words ≡ Some job → IsAnswer gave old new job.file (Bytes bytes)
-    → IsUnloaded bytes refusal → IsRefusal gave old new words refusal
-load_refused gave old new words job bytes _ is read (refused error why) =
-    plans.unplanned (record { asked = record { job = job; is = is; answer = Bytes bytes; read = read }; is = ap (plan_loaded job.target) why })
-load_refused gave old new words job bytes _ is read no_memory = plans.no_memory
+pub load_unopened : (gave : Gave) (old new : DiskView) (file bytes : List ℕ) (refusal : Refusal) → IsAnswer gave old new file (Bytes bytes)
+    → IsUnloaded bytes refusal → IsUnopened gave old new file refusal
+load_unopened gave old new file bytes _ read (refused error is) = plans.refused (Bytes bytes) read (ap of_load is)
+load_unopened gave old new file bytes _ read no_memory = plans.no_memory
 
 pub load_unloaded : (bytes : List ℕ) (error : LoadError) → (error ≡ load.NoMemory) ⊎ (loaded bytes ≡ Err error) → IsUnloaded bytes (load_refusal error)
 load_unloaded bytes (load.Yaml e) (inl none) = cc none
@@ -74,61 +93,78 @@ load_unloaded bytes (load.DepsClash command path) (inl none) = cc none
 load_unloaded bytes (load.DepsClash command path) (inr why) = refused (load.DepsClash command path) why
 load_unloaded bytes load.NoMemory why = no_memory
 
-pub disk_unread : (gave : Gave) (old new : DiskView) (job : Job) (error : DiskError) → (IsErrOf {T = FileBytes} (Err error) disks.NotDirectory → ⊥) → (IsErrOf {T = FileBytes} (Err error) disks.Fault → DiskFailed old new)
-    → IsUnread gave old new job (disk_refusal error)
-disk_unread gave old new job disks.Fault here rose = failed (rose refl)
-disk_unread gave old new job disks.NotDirectory here rose = absurd (here refl)
-disk_unread gave old new job disks.NoMemory here rose = no_memory
-
-pub file_unread : (gave : Gave) (old new : DiskView) (job : Job) (answer : FileBytes) (refusal : Refusal) → IsAnswer gave old new job.file answer → plan_of job answer ≡ Err (refusals.NoFile job.file)
-    → (refusal ≡ refusals.NoFile job.file) ⊎ (refusal ≡ refusals.NoMemory) → IsUnread gave old new job refusal
-file_unread gave old new job answer refusal read why (inl same) = subst (λ (r : Refusal). IsUnread gave old new job r) (sym same) (unplanned answer read why)
-file_unread gave old new job answer refusal read why (inr none) = subst (λ (r : Refusal). IsUnread gave old new job r) (sym none) no_memory
-
 -- what was read stays so as the world goes on
-abbrev pub asked_on : {gave : Gave} {old mid new : DiskView} {words : List (List ℕ)} → Keeps mid new → FileAnswer gave old mid words → FileAnswer gave old new words
-asked_on keeps a = record {
-  job = a.job;
-  is = a.is;
-  answer = a.answer;
-  read = record { given = a.read.given; fits = λ t. a.read.fits (keeps.infos t); is = λ m t. a.read.is m (keeps.contents m t) };
+answer_on : {gave : Gave} {old mid new : DiskView} {file : List ℕ} {answer : FileBytes} → Keeps mid new → IsAnswer gave old mid file answer
+    → IsAnswer gave old new file answer
+answer_on keeps a = record { given = a.given; fits = λ t. a.fits (keeps.infos t); is = λ m t. a.is m (keeps.contents m t) }
+
+-- the plan of a manifest that was loaded, or why it has none
+planned_by : (file : List ℕ) (target : Option (List ℕ)) (bytes : List ℕ) (manifest : ManifestLists) (entry : Option TargetEntry)
+    → loaded bytes ≡ Ok manifest → entry ≡ target_in manifest target
+    → plan_of (build_job file target) (Bytes bytes) ≡ plan_with manifest (no_target target) entry
+planned_by file target bytes manifest entry loads is =
+    ap (λ r. plan_from target (of_load r)) loads ∙ ap (plan_with manifest (no_target target)) (sym is)
+
+plan_found : {gave : Gave} {old mid new : DiskView} (file : List ℕ) (target : Option (List ℕ)) (manifest : ManifestLists) (entry : TargetEntry)
+    → Keeps mid new → IsOpened gave old mid file manifest → Some entry ≡ target_in manifest target
+    → IsPlanOf gave old new (build_job file target) (record { manifest = manifest; target = entry })
+plan_found file target manifest entry keeps o named = record {
+  answer = Bytes o.bytes;
+  read = answer_on keeps o.read;
+  is = planned_by file target o.bytes manifest (Some entry) o.loads named;
 }
 
 -- the plan of a manifest that was opened
-pub opened_plan : {gave : Gave} {old mid new : DiskView} {words : List (List ℕ)} (manifest : ManifestLists) (name : List ℕ) (entry : TargetEntry)
-    → Keeps mid new → IsOpened gave old mid words (manifest, name) → target_named manifest.targets name ≡ Some entry → IsBuilt manifest entry
-    → IsPlan gave old new words (record { manifest = manifest; target = entry })
-opened_plan manifest name entry keeps o named built = record {
-  asked = asked_on keeps o.asked;
-  is = ap (plan_of o.asked.job) o.answer_is ∙ ap (plan_loaded o.asked.job.target) o.loads ∙ ap (λ (n : List ℕ). plan_named manifest n (target_named manifest.targets n)) o.target_is ∙ ap (plan_named manifest name) named;
-  kept = o.kept;
-  built = built;
-}
+pub opened_plan : {gave : Gave} {old mid new : DiskView} (file : List ℕ) (target : Option (List ℕ)) (manifest : ManifestLists) (entry : TargetEntry)
+    → Keeps mid new → IsOpened gave old mid file manifest → Some entry ≡ target_in manifest target → IsBuilt manifest entry
+    → IsPlan gave old new (build_job file target) (record { manifest = manifest; target = entry })
+opened_plan file target manifest entry keeps o named built =
+    record { found = plan_found file target manifest entry keeps o named; kept = o.kept; built = built }
 
-pub opened_unknown : {gave : Gave} {old new : DiskView} {words : List (List ℕ)} (manifest : ManifestLists) (name : List ℕ)
-    → IsOpened gave old new words (manifest, name) → target_named manifest.targets name ≡ None → IsRefusal gave old new words (refusals.UnknownTarget name)
-opened_unknown manifest name o unknown = plans.unplanned (record {
-  asked = o.asked;
-  is = ap (plan_of o.asked.job) o.answer_is ∙ ap (plan_loaded o.asked.job.target) o.loads ∙ ap (λ (n : List ℕ). plan_named manifest n (target_named manifest.targets n)) o.target_is ∙ ap (plan_named manifest name) unknown;
-})
+-- a manifest that was not opened has no plan
+pub unopened_unplanned : {gave : Gave} {old new : DiskView} (file : List ℕ) (target : Option (List ℕ)) (refusal : Refusal)
+    → IsUnopened gave old new file refusal → IsUnplanned gave old new (build_job file target) refusal
+unopened_unplanned file target _ (plans.refused answer read is) = plans.refused answer read (ap (plan_from target) is)
+unopened_unplanned file target _ (plans.failed rose) = plans.failed rose
+unopened_unplanned file target _ plans.no_memory = plans.no_memory
 
--- what uses what is not built yet
-pub asker_unbuilt : (manifest : ManifestLists) (target : TargetEntry) (why : Unbuilt) (asker : List ℕ) → why ≡ unbuilt.Asker asker
-    → (why ≡ unbuilt.NoMemory) ⊎ ((name : List ℕ) × ((why ≡ unbuilt.Asker name) × IsAsker manifest target name))
-    → IsUnbuilt manifest target (refusals.NotBuilt asker)
-asker_unbuilt manifest target why asker is (inl none) = (let both : unbuilt.Asker asker ≡ unbuilt.NoMemory = sym is ∙ none in cc both)
-asker_unbuilt manifest target why asker is (inr (name, (same, who))) =
-    let both : unbuilt.Asker asker ≡ unbuilt.Asker name = sym is ∙ same in
-    let names : asker ≡ name = cc both in
-    asks (subst (λ (n : List ℕ). IsAsker manifest target n) (sym names) who)
+-- a manifest that has no such target
+pub opened_targetless : {gave : Gave} {old new : DiskView} (file : List ℕ) (target : Option (List ℕ)) (manifest : ManifestLists)
+    → IsOpened gave old new file manifest → None ≡ target_in manifest target → IsUnplanned gave old new (build_job file target) (no_target target)
+opened_targetless file target manifest o none =
+    plans.refused (Bytes o.bytes) o.read (planned_by file target o.bytes manifest None o.loads none)
 
 -- a target that is not built
-pub opened_unbuilt : {gave : Gave} {old new : DiskView} {words : List (List ℕ)} (manifest : ManifestLists) (name : List ℕ) (entry : TargetEntry) (refusal : Refusal)
-    → IsOpened gave old new words (manifest, name) → target_named manifest.targets name ≡ Some entry → IsUnbuilt manifest entry refusal → IsRefusal gave old new words refusal
-opened_unbuilt manifest name entry _ o named (asks who) = plans.unbuilt (record {
-  asked = o.asked;
-  plan = record { manifest = manifest; target = entry };
-  is = ap (plan_of o.asked.job) o.answer_is ∙ ap (plan_loaded o.asked.job.target) o.loads ∙ ap (λ (n : List ℕ). plan_named manifest n (target_named manifest.targets n)) o.target_is ∙ ap (plan_named manifest name) named;
-  asks = who;
-})
-opened_unbuilt manifest name entry _ o named no_memory = plans.no_memory
+pub opened_unbuilt : {gave : Gave} {old new : DiskView} (file : List ℕ) (target : Option (List ℕ)) (manifest : ManifestLists) (entry : TargetEntry)
+    (refusal : Refusal) → IsOpened gave old new file manifest → Some entry ≡ target_in manifest target
+    → IsUnbuilt manifest entry refusal → IsUnplanned gave old new (build_job file target) refusal
+opened_unbuilt file target manifest entry _ o named (opens.asks who) =
+    plans.asks (plan_found file target manifest entry (record { infos = λ t. t; contents = λ m t. t }) o named) who
+opened_unbuilt file target manifest entry _ o named (opens.later which) =
+    plans.later (plan_found file target manifest entry (record { infos = λ t. t; contents = λ m t. t }) o named) which
+opened_unbuilt file target manifest entry _ o named opens.no_memory = plans.no_memory
+
+-- what follows from a refusal
+pub err_on : {T E : Type 0} (r : Result T E) (P Q : E → Type 0) → ((e : E) → P e → Q e) → IfErr r P → IfErr r Q
+err_on (Ok x) P Q next why = tt
+err_on (Err e) P Q next why = next e why
+
+-- what follows from what is given
+pub ok_on : {T E : Type 0} (r : Result T E) (P Q : T → Type 0) → ((x : T) → P x → Q x) → IfOk r P → IfOk r Q
+ok_on (Ok x) P Q next is = next x is
+ok_on (Err e) P Q next is = tt
+
+-- a refusal for want of memory
+pub memory_unopened : (gave : Gave) (old new : DiskView) (file : List ℕ) (refusal : Refusal) → refusal ≡ refusals.NoMemory
+    → IsUnopened gave old new file refusal
+memory_unopened gave old new file refusal is = subst (λ (r : Refusal). IsUnopened gave old new file r) (sym is) plans.no_memory
+
+-- why a target is not built
+pub target_unbuilt : (manifest : ManifestLists) (target : TargetEntry) (unbuilt : Unbuilt) (command node : List ℕ)
+    → unbuilt ≡ unbuilts.Later command node → why.IsUnbuilt manifest target unbuilt → IsUnbuilt manifest target (refusals.LaterMaker command node)
+target_unbuilt manifest target unbuilt command node is which =
+    opens.later (subst (λ (u : Unbuilt). why.IsUnbuilt manifest target u) is which)
+
+pub asker_unbuilt : (manifest : ManifestLists) (target : TargetEntry) (unbuilt : Unbuilt) (asker : List ℕ)
+    → unbuilt ≡ unbuilts.Asker asker → why.IsUnbuilt manifest target unbuilt → IsUnbuilt manifest target (refusals.NotBuilt asker)
+asker_unbuilt manifest target unbuilt asker is who = opens.asks (subst (λ (u : Unbuilt). why.IsUnbuilt manifest target u) is who)

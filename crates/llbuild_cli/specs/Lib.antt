@@ -10,7 +10,6 @@ pub mod CommandRun
 pub mod OrderEnd
 pub mod Stands
 pub mod Stop
-pub mod Job
 pub mod Plan
 pub mod Source
 pub mod Open
@@ -19,5 +18,8 @@ pub mod Output
 pub mod MissingInput
 pub mod BuildStop
 pub mod Run
+pub mod Course
+pub mod Complete
+pub mod Served
 pub mod Finish
 pub mod InMemory

@@ -1,20 +1,33 @@
--- A manifest that was opened, or why it was not.
+-- Why a step towards a plan fails.
 use Rattle.std.specs.Prelude.{◌≡◌, ℕ, List, Ok, Err}
-use Rattle.outside.specs.View.{DiskView, DiskFailed}
-use Rattle.outside.specs.declared.disk.FileBytes.{FileBytes}
-use Rattle.outside.specs.declared.disk.FileBytes.TheVariants.{Bytes}
+use Rattle.outside.specs.View.{DiskView}
 use Rattle.outside.specs.declared.disk.DiskError.{DiskError}
 use Rattle.outside.specs.declared.disk.DiskError.TheVariants as disks
+use Rattle.outside.specs.declared.disk.FileBytes.TheVariants.{Bytes}
+use Rattle.yaml_profile.specs.Print.{spelling}
+use Rattle.yaml_profile.specs.Read.{yaml_of}
+use Rattle.yaml_profile.specs.declared.yaml.Yaml.{Yaml}
+use Rattle.command_line.specs.declared.job.UsageFault.{UsageFault}
+use Rattle.command_line.specs.declared.job.UsageFault.TheVariants as faults
 use Rattle.manifest_reader.specs.declared.error.LoadError.{LoadError}
 use Rattle.manifest_reader.specs.declared.error.LoadError.TheVariants as load
 use Rattle.manifest_reader.specs.Load.{loaded}
 use Rattle.build_manifest.specs.declared.command.TargetEntry.{TargetEntry}
 use Rattle.build_manifest.specs.Manifest.{ManifestLists, IsManifest}
-use Rattle.build_plan.specs.Built.{IsAsker}
+use Rattle.build_plan.specs.Built.{IsAsker, IsLaterMaker}
 use Rattle.llbuild_cli.specs.declared.refusal.Refusal.{Refusal}
-use Rattle.llbuild_cli.specs.declared.refusal.Refusal.TheVariants.{Manifest, NotBuilt, DiskFault, NoMemory}
-use Rattle.llbuild_cli.specs.declared.words.Job.{Job}
-use Rattle.llbuild_cli.specs.Plan.{Gave, IsAnswer, FileAnswer, plan_of}
+use Rattle.llbuild_cli.specs.declared.refusal.Refusal.TheVariants.{Usage, Manifest, NotBuilt, LaterMaker, DiskFault, NoMemory}
+use Rattle.llbuild_cli.specs.Plan.{Gave, IsAnswer}
+
+-- what words that ask for no job refuse
+abbrev pub usage_refusal : UsageFault → Refusal
+usage_refusal faults.NoCommand = Usage faults.NoCommand
+usage_refusal faults.Words = Usage faults.Words
+usage_refusal (faults.BadNumber option) = Usage (faults.BadNumber option)
+usage_refusal (faults.BadPath option) = Usage (faults.BadPath option)
+usage_refusal (faults.Exclusive first second) = Usage (faults.Exclusive first second)
+usage_refusal faults.NotBuilt = Usage faults.NotBuilt
+usage_refusal faults.NoMemory = NoMemory
 
 -- what a disk that gave no answer refuses
 abbrev pub disk_refusal : DiskError → Refusal
@@ -40,28 +53,33 @@ load_refusal (load.DirectoryOutput command node) = Manifest (load.DirectoryOutpu
 load_refusal (load.DepsClash command path) = Manifest (load.DepsClash command path)
 load_refusal load.NoMemory = NoMemory
 
--- why the bytes of a job's manifest are not read: what was read of its file has no plan, the disk failed, or no memory was left
-pub data IsUnread (gave : Gave) (old new : DiskView) (job : Job) : Refusal → Type 0 where
-  unplanned : {refusal : Refusal} (answer : FileBytes) → IsAnswer gave old new job.file answer
-      → plan_of job answer ≡ Err refusal → IsUnread gave old new job refusal
-  failed : DiskFailed old new → IsUnread gave old new job DiskFault
-  no_memory : IsUnread gave old new job NoMemory
-
 -- why a manifest is not loaded: the bytes are refused, or no memory was left
 pub data IsUnloaded (bytes : List ℕ) : Refusal → Type 0 where
   refused : (error : LoadError) → loaded bytes ≡ Err error → IsUnloaded bytes (Manifest error)
   no_memory : IsUnloaded bytes NoMemory
 
--- why a target of a manifest is not built: it or a command that it needs uses what is not built yet, or no memory was left
+-- why a target of a manifest is not built: who uses what is not built yet, which command reads what is made later, or no memory
+-- was left
 pub data IsUnbuilt (manifest : ManifestLists) (target : TargetEntry) : Refusal → Type 0 where
   asks : {asker : List ℕ} → IsAsker manifest target asker → IsUnbuilt manifest target (NotBuilt asker)
+  later : {command node : List ℕ} → IsLaterMaker manifest target command node → IsUnbuilt manifest target (LaterMaker command node)
   no_memory : IsUnbuilt manifest target NoMemory
 
--- the words' manifest was loaded, and this is the target that they name
-pub record IsOpened (gave : Gave) (old new : DiskView) (words : List (List ℕ)) (opened : ManifestLists × List ℕ) : Type 0 where
-  pub asked : FileAnswer gave old new words
+-- the manifest was loaded from what was read of its file
+pub record IsOpened (gave : Gave) (old new : DiskView) (file : List ℕ) (manifest : ManifestLists) : Type 0 where
   pub bytes : List ℕ
-  pub answer_is : asked.answer ≡ Bytes bytes
-  pub loads : loaded bytes ≡ Ok opened.0
-  pub target_is : asked.job.target ≡ opened.1
-  pub kept : IsManifest opened.0
+  pub read : IsAnswer gave old new file (Bytes bytes)
+  pub loads : loaded bytes ≡ Ok manifest
+  pub kept : IsManifest manifest
+
+-- the text is the spelling of the tree of these bytes
+pub record IsSpelled (bytes text : List ℕ) : Type 0 where
+  pub tree : Yaml
+  pub is : yaml_of bytes ≡ Ok tree
+  pub spells : text ≡ spelling tree
+
+-- a manifest was loaded from what was read of its file, and the text is the spelling of its tree
+pub record IsTreeText (gave : Gave) (old new : DiskView) (file text : List ℕ) : Type 0 where
+  pub manifest : ManifestLists
+  pub opened : IsOpened gave old new file manifest
+  pub tree : IsSpelled opened.bytes text

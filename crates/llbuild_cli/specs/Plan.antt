@@ -1,4 +1,4 @@
--- What the words of a run ask for, and what it finds.
+-- What a build is planned by, and why it is not.
 use Rattle.std.specs.Prelude.{◌≡◌, ℕ, List, Option, Some, None, Result, Ok, Err}
 use Rattle.file_info.specs.Content.{FileVersion, content}
 use Rattle.file_info.specs.declared.info.Form.TheVariants.{Follow}
@@ -8,19 +8,16 @@ use Rattle.outside.specs.declared.disk.FileBytes.{FileBytes}
 use Rattle.outside.specs.declared.disk.FileBytes.TheVariants.{Missing, NotFile, TooLong, Bytes}
 use Rattle.yaml_profile.specs.declared.error.YamlError.TheVariants as yaml
 use Rattle.build_manifest.specs.declared.command.TargetEntry.{TargetEntry}
+use Rattle.build_manifest.specs.Manifest.{ManifestLists, IsManifest, default_of}
+use Rattle.build_manifest.specs.Places.{target_named}
 use Rattle.manifest_reader.specs.declared.error.LoadError.{LoadError}
 use Rattle.manifest_reader.specs.declared.error.LoadError.TheVariants as load
 use Rattle.manifest_reader.specs.Load.{loaded}
-use Rattle.build_manifest.specs.Manifest.{ManifestLists, IsManifest}
-use Rattle.build_manifest.specs.Places.{target_named}
-use Rattle.build_plan.specs.Built.{IsBuilt, IsAsker}
-use Rattle.llbuild_cli.specs.declared.refusal.Refusal.{Refusal}
-use Rattle.llbuild_cli.specs.declared.refusal.Refusal.TheVariants as refusals
+use Rattle.build_plan.specs.Built.{IsAsker, IsBuilt, IsLaterMaker}
 use Rattle.build_report.specs.declared.report.End.{End}
 use Rattle.build_report.specs.declared.report.End.TheVariants as ends
-use Rattle.llbuild_cli.specs.declared.words.Job.{Job}
-use Rattle.build_report.specs.declared.report.UsageFault.TheVariants.{Words}
-use Rattle.llbuild_cli.specs.Job.{job_of}
+use Rattle.llbuild_cli.specs.declared.refusal.Refusal.{Refusal}
+use Rattle.llbuild_cli.specs.declared.refusal.Refusal.TheVariants as refusals
 
 -- the most bytes that a manifest has
 abbrev pub manifest_max : ℕ
@@ -31,23 +28,51 @@ pub record Plan : Type 0 where
   pub manifest : ManifestLists
   pub target : TargetEntry
 
--- the plan of a manifest and the target of this name, or that there is no such target
-abbrev pub plan_named : ManifestLists → List ℕ → Option TargetEntry → Result Plan Refusal
-plan_named manifest name None = Err (refusals.UnknownTarget name)
-plan_named manifest name (Some target) = Ok (record { manifest = manifest; target = target })
+-- a build that is asked for: the path of its manifest, and the name of its target, or none for the manifest's default
+pub record BuildJob : Type 0 where
+  pub file : List ℕ
+  pub target : Option (List ℕ)
 
--- the plan of a manifest that was loaded and the target of this name, or why there is none
-abbrev pub plan_loaded : List ℕ → Result ManifestLists LoadError → Result Plan Refusal
-plan_loaded name (Err error) = Err (refusals.Manifest error)
-plan_loaded name (Ok manifest) = plan_named manifest name (target_named manifest.targets name)
+-- the build of this file and this target
+abbrev pub build_job : List ℕ → Option (List ℕ) → BuildJob
+build_job file target = record { file = file; target = target }
 
--- the plan of a job, by what was read where its manifest is due, or why there is none: no file, a manifest that is refused,
--- an unknown target
-abbrev pub plan_of : Job → FileBytes → Result Plan Refusal
-plan_of job Missing = Err (refusals.NoFile job.file)
-plan_of job NotFile = Err (refusals.NoFile job.file)
-plan_of job TooLong = Err (refusals.Manifest (load.Yaml yaml.TooLong))
-plan_of job (Bytes bytes) = plan_loaded job.target (loaded bytes)
+-- the manifest that was loaded, or its refusal
+abbrev pub of_load : Result ManifestLists LoadError → Result ManifestLists Refusal
+of_load (Err error) = Err (refusals.Manifest error)
+of_load (Ok manifest) = Ok manifest
+
+-- the manifest of what was read where one is due, or why there is none: no file, or a text that is refused
+abbrev pub manifest_in : List ℕ → FileBytes → Result ManifestLists Refusal
+manifest_in file Missing = Err (refusals.NoFile file)
+manifest_in file NotFile = Err (refusals.NoFile file)
+manifest_in file TooLong = Err (refusals.Manifest (load.Yaml yaml.TooLong))
+manifest_in file (Bytes bytes) = of_load (loaded bytes)
+
+-- the target of this name in a manifest, or its default where none is named
+abbrev pub target_in : ManifestLists → Option (List ℕ) → Option TargetEntry
+target_in manifest None = default_of manifest.targets manifest.default_place
+target_in manifest (Some name) = target_named manifest.targets name
+
+-- why a manifest has no such target
+abbrev pub no_target : Option (List ℕ) → Refusal
+no_target None = refusals.NoDefault
+no_target (Some name) = refusals.UnknownTarget name
+
+-- the plan of a manifest and one of its targets, or this refusal where there is no such target
+abbrev pub plan_with : ManifestLists → Refusal → Option TargetEntry → Result Plan Refusal
+plan_with manifest refusal None = Err refusal
+plan_with manifest refusal (Some target) = Ok (record { manifest = manifest; target = target })
+
+-- the plan of a manifest and the target that is asked for, or why there is none
+abbrev pub plan_from : Option (List ℕ) → Result ManifestLists Refusal → Result Plan Refusal
+plan_from target (Err refusal) = Err refusal
+plan_from target (Ok manifest) = plan_with manifest (no_target target) (target_in manifest target)
+
+-- the plan of a build, by what was read where its manifest is due, or why there is none: no file, a manifest that is refused, an
+-- unknown target, or no default
+abbrev pub plan_of : BuildJob → FileBytes → Result Plan Refusal
+plan_of job answer = plan_from job.target (manifest_in job.file answer)
 
 -- what a disk answers of files: a relation of a path, the most bytes that are wanted, and the answer
 abbrev pub Gave : Type 1
@@ -59,46 +84,36 @@ pub record IsAnswer (gave : Gave) (old new : DiskView) (file : List ℕ) (answer
   pub fits : Told new → FitsInfo (old.at file Follow) answer
   pub is : (m : List FileVersion) → Tells new m → answer ≡ bytes_of manifest_max (content m file (old.at file Follow))
 
--- the words are a job, and its manifest's file was read
-pub record FileAnswer (gave : Gave) (old new : DiskView) (words : List (List ℕ)) : Type 0 where
-  pub job : Job
-  pub is : job_of words ≡ Some job
+-- the build has this plan, by what was read of its file
+pub record IsPlanOf (gave : Gave) (old new : DiskView) (job : BuildJob) (plan : Plan) : Type 0 where
   pub answer : FileBytes
   pub read : IsAnswer gave old new job.file answer
+  pub is : plan_of job answer ≡ Ok plan
 
--- this is the plan of the words, by what was read of FILE: its manifest keeps what every manifest does, and all that its target
--- needs is built today
-pub record IsPlan (gave : Gave) (old new : DiskView) (words : List (List ℕ)) (plan : Plan) : Type 0 where
-  pub asked : FileAnswer gave old new words
-  pub is : plan_of asked.job asked.answer ≡ Ok plan
+-- the build has this plan, its manifest keeps what every manifest does, and all that its target needs is built today
+pub record IsPlan (gave : Gave) (old new : DiskView) (job : BuildJob) (plan : Plan) : Type 0 where
+  pub found : IsPlanOf gave old new job plan
   pub kept : IsManifest plan.manifest
   pub built : IsBuilt plan.manifest plan.target
 
--- the words have a plan, by what was read of FILE, but this is who uses what is not built yet
-pub record IsNotBuilt (gave : Gave) (old new : DiskView) (words : List (List ℕ)) (asker : List ℕ) : Type 0 where
-  pub asked : FileAnswer gave old new words
-  pub plan : Plan
-  pub is : plan_of asked.job asked.answer ≡ Ok plan
-  pub asks : IsAsker plan.manifest plan.target asker
+-- why no manifest is opened: there is none by what was read of its file, the disk failed, or no memory was left
+pub data IsUnopened (gave : Gave) (old new : DiskView) (file : List ℕ) : Refusal → Type 0 where
+  refused : {refusal : Refusal} (answer : FileBytes) → IsAnswer gave old new file answer → manifest_in file answer ≡ Err refusal
+      → IsUnopened gave old new file refusal
+  failed : DiskFailed old new → IsUnopened gave old new file refusals.DiskFault
+  no_memory : IsUnopened gave old new file refusals.NoMemory
 
--- the words have no plan, by what was read of FILE, and this is why
-pub record IsRefused (gave : Gave) (old new : DiskView) (words : List (List ℕ)) (refusal : Refusal) : Type 0 where
-  pub asked : FileAnswer gave old new words
-  pub is : plan_of asked.job asked.answer ≡ Err refusal
-
--- the words are those of a job
-pub record IsJob (words : List (List ℕ)) : Type 0 where
-  pub job : Job
-  pub is : job_of words ≡ Some job
-
--- why nothing was planned: the words are no job, they have no plan by what was read of FILE, their target needs what is not
--- built yet, the disk failed, or no memory was left
-pub data IsRefusal (gave : Gave) (old new : DiskView) (words : List (List ℕ)) : Refusal → Type 0 where
-  usage : job_of words ≡ None → IsRefusal gave old new words (refusals.Usage Words)
-  unplanned : {refusal : Refusal} → IsRefused gave old new words refusal → IsRefusal gave old new words refusal
-  unbuilt : {asker : List ℕ} → IsNotBuilt gave old new words asker → IsRefusal gave old new words (refusals.NotBuilt asker)
-  failed : IsJob words → DiskFailed old new → IsRefusal gave old new words refusals.DiskFault
-  no_memory : IsRefusal gave old new words refusals.NoMemory
+-- why nothing is built: there is no plan by what was read of the manifest's file; who uses what is not built yet; which command
+-- reads what is made later; the disk failed; or no memory was left
+pub data IsUnplanned (gave : Gave) (old new : DiskView) (job : BuildJob) : Refusal → Type 0 where
+  refused : {refusal : Refusal} (answer : FileBytes) → IsAnswer gave old new job.file answer → plan_of job answer ≡ Err refusal
+      → IsUnplanned gave old new job refusal
+  asks : {plan : Plan} {asker : List ℕ} → IsPlanOf gave old new job plan → IsAsker plan.manifest plan.target asker
+      → IsUnplanned gave old new job (refusals.NotBuilt asker)
+  later : {plan : Plan} {command node : List ℕ} → IsPlanOf gave old new job plan → IsLaterMaker plan.manifest plan.target command node
+      → IsUnplanned gave old new job (refusals.LaterMaker command node)
+  failed : DiskFailed old new → IsUnplanned gave old new job refusals.DiskFault
+  no_memory : IsUnplanned gave old new job refusals.NoMemory
 
 -- how a run ends that was refused so
 abbrev pub refused_end : {F : Type 0} → Refusal → End F
@@ -106,6 +121,8 @@ refused_end (refusals.Usage fault) = ends.Usage fault
 refused_end (refusals.NoFile path) = ends.NoFile path
 refused_end (refusals.Manifest error) = ends.Manifest error
 refused_end (refusals.UnknownTarget name) = ends.UnknownTarget name
+refused_end refusals.NoDefault = ends.NoDefault
 refused_end (refusals.NotBuilt asker) = ends.NotBuilt asker
+refused_end (refusals.LaterMaker command node) = ends.LaterMaker command node
 refused_end refusals.DiskFault = ends.DiskFault
 refused_end refusals.NoMemory = ends.NoMemory

@@ -1,12 +1,12 @@
 -- What holds of a run.
-use Rattle.std.specs.Prelude.{◌≡◌, ◌⊎◌, ◌≤◌, ◌+◌, ◌++◌, ℕ, List, [], length, map, slice_get, Some, Result, Ok, Err}
+use Rattle.std.specs.Prelude.{◌≡◌, ◌⊎◌, ◌≤◌, ◌+◌, ◌++◌, ℕ, List, length, map, slice_get, Some, Result, Ok, Err}
 use Rattle.file_info.specs.Content.{FileVersion, content, node_text}
 use Rattle.file_info.specs.Lists.{In, IsDistinct}
 use Rattle.file_info.specs.declared.info.Info.{Info}
 use Rattle.file_info.specs.declared.info.Info.TheVariants.{Missing}
 use Rattle.file_info.specs.declared.info.Form.TheVariants.{Follow}
 use Rattle.outside.specs.OrderForm.{IsOrderOf}
-use Rattle.outside.specs.View.{DiskView, SinkView, DiskFailed, SinkFailed, Told, Tells, Stayed, Grew}
+use Rattle.outside.specs.View.{DiskView, SinkView, DiskFailed, SinkFailed, Told, Tells, Grew}
 use Rattle.outside.specs.declared.order.Exit.{Exit}
 use Rattle.outside.specs.declared.order.Order.{Order}
 use Rattle.outside.specs.declared.world.NoFault.{NoFault}
@@ -14,7 +14,6 @@ use Rattle.build_manifest.specs.declared.command.Command.{Command}
 use Rattle.build_manifest.specs.declared.command.Input.{Input}
 use Rattle.build_meaning.specs.Commands.{meaning_of}
 use Rattle.build_meaning.specs.Fresh.{Does, Fresh}
-use Rattle.llbuild_cli.specs.declared.refusal.Refusal.{Refusal}
 use Rattle.build_report.specs.declared.report.End.{End}
 use Rattle.build_report.specs.declared.report.End.TheVariants as ends
 use Rattle.build_report.specs.declared.report.Heard.{Heard}
@@ -28,13 +27,12 @@ use Rattle.llbuild_cli.specs.BuildStop.{IsLastFailed, IsWritten}
 use Rattle.llbuild_cli.specs.Outcome.{AllDone, IsGiven, IsLawful}
 use Rattle.llbuild_cli.specs.Journal.{Journal}
 use Rattle.llbuild_cli.specs.Move.{Moved}
-use Rattle.llbuild_cli.specs.Plan.{Gave, Plan, IsPlan, IsRefusal, refused_end}
+use Rattle.llbuild_cli.specs.Plan.{Gave, Plan}
 use Rattle.llbuild_cli.specs.Output.{WrotePart}
 use Rattle.llbuild_cli.specs.Input.{WereRead}
 use Rattle.llbuild_cli.specs.Sight.{Shows, IsSingle, sights_of}
 use Rattle.llbuild_cli.specs.Source.{AreSources}
 use Rattle.llbuild_cli.specs.Start.{AreStarts, AllStarted, IsNextStart}
-use Rattle.llbuild_cli.specs.Stop.{end_after}
 use Rattle.build_report.specs.Text.{lines_of, summary_text}
 
 -- the law of commands, what a world answers of orders, and what its disk answers of files
@@ -174,28 +172,3 @@ pub record Did (answers : Answers) (run : Run) (plan : Plan) (result : Result (U
   pub wrote : Wrote run plan result
   pub end : IsWhy run plan result
   pub apart : Moved (IsWritten plan.manifest.commands run.report.starts) run.old run.new
-
--- the words have this plan, by what was read of FILE, and all of the run is by it
-pub record Planned (answers : Answers) (run : Run) (words : List (List ℕ)) : Type 0 where
-  pub plan : Plan
-  pub is : IsPlan answers.gave run.old run.new words plan
-  pub result : Result (Unit {0}) Stop
-  pub ends : run.report.end ≡ end_after result
-  pub did : Did answers run plan result
-
--- nothing was planned, for this reason: nothing was noted, written or changed
-pub record Declined (answers : Answers) (run : Run) (words : List (List ℕ)) : Type 0 where
-  pub refusal : Refusal
-  pub ends : run.report.end ≡ refused_end refusal
-  pub why : IsRefusal answers.gave run.old run.new words refusal
-  pub starts : run.report.starts ≡ []
-  pub stats : run.report.stats ≡ []
-  pub heard : run.report.heard ≡ []
-  pub wrote : Grew run.out run.out_new []
-  pub stayed : Stayed run.old run.new
-
--- all that is said of a run: it was declined, or there is one plan of which all holds; and nothing is begun any more
-pub record Served (answers : Answers) (run : Run) (words : List (List ℕ)) : Type 0 where
-  pub course : Declined answers run words ⊎ Planned answers run words
-  pub none : run.new.orders ≡ []
-  pub begins : run.new.begins ≤ run.old.begins + length run.report.starts

@@ -1,4 +1,4 @@
-//! The command line's words, and the run that they ask for.
+//! The run that words ask for.
 #![tactic(auto)]
 
 pub mod in_memory;
@@ -8,4 +8,3 @@ mod refusal;
 pub mod run;
 mod serial;
 mod stop;
-pub mod words;

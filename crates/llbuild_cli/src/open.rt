@@ -1,4 +1,4 @@
-//! The manifest that words ask for.
+//! The job that words ask for, its manifest and its target.
 ghost use Rattle.std.specs.Prelude.{◌≡◌, ◌⊎◌, Some, None, Ok, IsTrue, map, string_bytes, IfOk, IfErr, OnOk};
 ghost use Rattle.std.specs.Option.{option_copied};
 ghost use Rattle.std.specs.Str.{is_utf8};
@@ -8,70 +8,65 @@ ghost use Rattle.build_manifest.specs.Manifest.{IsManifest};
 ghost use Rattle.build_manifest.specs.Places.{target_named};
 ghost use Rattle.build_meaning.specs.Need.{AreMarks};
 ghost use Rattle.build_plan.specs.Built.{IsBuilt};
-ghost use Rattle.llbuild_cli.specs.Open.{IsUnread, IsUnloaded, IsUnbuilt, IsOpened};
-ghost use Rattle.llbuild_cli.specs.Plan.{IsAnswer, IsRefusal};
-ghost use Rattle.llbuild_cli.specs.Job.{job_of};
+ghost use Rattle.command_line.specs.Job.{IsText, NamesText, served_job};
+ghost use Rattle.llbuild_cli.specs.Course.{IsNoJob};
+ghost use Rattle.llbuild_cli.specs.Open.{IsUnloaded, IsUnbuilt, IsOpened, IsSpelled, IsTreeText};
+ghost use Rattle.llbuild_cli.specs.Plan.{IsAnswer, IsUnopened, no_target, target_in};
 
 use crate::refusal::Refusal;
-use crate::words::{Job, read_words};
 use build_manifest::command::TargetEntry;
 use build_manifest::manifest::Manifest;
 use build_plan::plan::{Unbuilt, plan};
-use build_report::report::UsageFault;
+use command_line::job::Job;
+use command_line::words::read_words;
 use file_info::copied::Copied;
-use file_info::list::Bytes;
+use file_info::list::{Bytes, List};
+use file_info::path::PathName;
 use manifest_reader::error::LoadError;
 use manifest_reader::load::load;
 use outside::disk::FileBytes;
 use outside::law::Law;
 use outside::world::World;
 use std::alloc::Global;
-use yaml_profile::YamlError;
+use yaml_profile::{YamlError, print, read};
 
 /// The most bytes that a manifest has.
 pub const MANIFEST_MAX: u64 = 67_108_864;
 
-/// A manifest, and the name of the target that is asked for, which is UTF-8.
-#[derive(Drop)]
-pub struct Opened {
-    pub manifest: Manifest,
-    pub target: Bytes,
+/// The job that the words ask for, where it is served.
+pub fn job_of(alloc: Global, words: &[String]) -> Result<Job, Refusal>
+    ensures ok { IfOk result (λ job. served_job (map string_bytes words.now) ≡ Ok job) }
+    ensures text { IfOk result NamesText }
+    ensures refused { IfErr result (IsNoJob (served_job (map string_bytes words.now))) }
+{
+    let job = read_words(alloc, words)?;
+    Ok(job)
 }
 
-// The job that the words ask for.
-fn job_of(alloc: Global, words: &[String]) -> Result<Job, Refusal>
-    ensures ok { IfOk result (λ job. job_of (map string_bytes words.now) ≡ Some job) }
-    ensures text { IfOk result (λ job. IsTrue (is_utf8 job.target)) }
-    ensures refused { IfErr result (λ refusal. (refusal ≡ Refusal.NoMemory)
-        ⊎ ((refusal ≡ Refusal.Usage UsageFault.Words) × (job_of (map string_bytes words.now) ≡ None))) }
+// That no file stands where the manifest is due.
+fn no_file(alloc: Global, file: &PathName) -> Refusal
+    ensures { (result ≡ Refusal.NoFile file.now) ⊎ (result ≡ Refusal.NoMemory) }
 {
-    match read_words(alloc, words) {
-        Ok(job) => Ok(job),
-        Err(UsageFault::NoMemory) => Err(Refusal::NoMemory),
-        Err(UsageFault::Words) => Err(Refusal::Usage(UsageFault::Words)),
-    }
-}
-
-// That no file stands where the job's manifest is due.
-fn no_file(alloc: Global, job: &Job) -> Refusal
-    ensures { (result ≡ Refusal.NoFile job.now.file) ⊎ (result ≡ Refusal.NoMemory) }
-{
-    match job.file.copy(alloc) {
+    match file.copy(alloc) {
         Ok(path) => Refusal::NoFile { path },
         Err(_) => Refusal::NoMemory,
     }
 }
 
-// The bytes of the job's manifest.
-fn bytes_of<L: Law, W: World<L>>(alloc: Global, job: &Job, world: &mut W) -> Result<Bytes, Refusal>
-    ensures ok { IfOk result (λ bytes. IsAnswer W.gave (W.view world.old) (W.view world.new) job.now.file (FileBytes.Bytes bytes)) }
-    ensures refused { IfErr result (IsUnread W.gave (W.view world.old) (W.view world.new) job.now) }
+// The bytes of a manifest's file.
+fn bytes_of<L: Law, W: World<L>>(
+    alloc: Global,
+    file: &PathName,
+    world: &mut W,
+) -> Result<Bytes, Refusal>
+    ensures ok { IfOk result (λ bytes. IsAnswer W.gave (W.view world.old) (W.view world.new) file.now (FileBytes.Bytes bytes)) }
+    ensures refused { IfErr result (IsUnopened W.gave (W.view world.old) (W.view world.new) file.now) }
     ensures stayed { Stayed (W.view world.old) (W.view world.new) }
 {
-    match world.read(alloc, &job.file, MANIFEST_MAX)? {
+    match world.read(alloc, file, MANIFEST_MAX)? {
         FileBytes::Bytes(bytes) => Ok(bytes),
-        FileBytes::Missing => Err(no_file(alloc, job)),
-        FileBytes::NotFile => Err(no_file(alloc, job)),
+        FileBytes::Missing => Err(no_file(alloc, file)),
+        FileBytes::NotFile => Err(no_file(alloc, file)),
         FileBytes::TooLong => Err(Refusal::Manifest(LoadError::Yaml(YamlError::TooLong))),
     }
 }
@@ -86,35 +81,78 @@ fn manifest_of(alloc: Global, bytes: &Bytes) -> Result<Manifest, Refusal>
     Ok(manifest)
 }
 
-/// Reads the manifest that the words ask for.
+/// Reads the manifest at a path.
 pub fn open<L: Law, W: World<L>>(
     alloc: Global,
-    words: &[String],
+    file: &PathName,
     world: &mut W,
-) -> Result<Opened, Refusal>
-    ensures ok { IfOk result (λ opened.
-        IsOpened W.gave (W.view world.old) (W.view world.new) (map string_bytes words.now) (opened.manifest, opened.target)) }
-    ensures text { IfOk result (λ opened. IsTrue (is_utf8 opened.target)) }
-    ensures refused { IfErr result (IsRefusal W.gave (W.view world.old) (W.view world.new) (map string_bytes words.now)) }
+) -> Result<Manifest, Refusal>
+    ensures ok { IfOk result (λ manifest. IsOpened W.gave (W.view world.old) (W.view world.new) file.now manifest) }
+    ensures refused { IfErr result (IsUnopened W.gave (W.view world.old) (W.view world.new) file.now) }
     ensures stayed { Stayed (W.view world.old) (W.view world.new) }
 {
-    let job = job_of(alloc, words)?;
-    let bytes = bytes_of(alloc, &job, world)?;
-    let manifest = manifest_of(alloc, &bytes)?;
-    Ok(Opened {
-        manifest,
-        target: job.target,
-    })
+    let bytes = bytes_of(alloc, file, world)?;
+    manifest_of(alloc, &bytes)
 }
 
-/// The target of this name, which is UTF-8. None exactly where the manifest has none.
-pub fn target_in<'m>(manifest: &'m Manifest, name: &Bytes) -> Option<&'m TargetEntry>
+// The spelling of the tree of a manifest's bytes.
+fn spelling_of(alloc: Global, bytes: &Bytes) -> Result<Bytes, Refusal>
+    ensures ok { IfOk result (IsSpelled bytes.now) }
+    ensures refused { IfErr result (λ refusal. refusal ≡ Refusal.NoMemory) }
+{
+    // The manifest was accepted, so that want of memory is the only refusal that is left.
+    let Ok(tree) = read(alloc, bytes.as_slice()) else {
+        return Err(Refusal::NoMemory);
+    };
+    let mut text = List::new(alloc);
+    print(alloc, &tree, &mut text)?;
+    Ok(text)
+}
+
+/// The spelling of the tree of the manifest at a path, where that is accepted.
+pub fn tree_text<L: Law, W: World<L>>(
+    alloc: Global,
+    file: &PathName,
+    world: &mut W,
+) -> Result<Bytes, Refusal>
+    ensures ok { IfOk result (IsTreeText W.gave (W.view world.old) (W.view world.new) file.now) }
+    ensures refused { IfErr result (IsUnopened W.gave (W.view world.old) (W.view world.new) file.now) }
+    ensures stayed { Stayed (W.view world.old) (W.view world.new) }
+{
+    let bytes = bytes_of(alloc, file, world)?;
+    let _accepted = manifest_of(alloc, &bytes)?;
+    spelling_of(alloc, &bytes)
+}
+
+// The target of this name, which is UTF-8.
+fn target_named<'m>(manifest: &'m Manifest, name: &Bytes) -> Option<&'m TargetEntry>
     requires { IsTrue (is_utf8 name.now) }
     ensures { option_copied result ≡ target_named manifest.now.targets name.now }
 {
     match std::str::from_utf8(name.as_slice()) {
         Ok(name) => manifest.target(name),
         Err(_) => None,
+    }
+}
+
+/// The target of this name in a manifest, or its default where none is named. None exactly where it has no such target.
+pub fn target_in<'m>(manifest: &'m Manifest, target: &Option<Bytes>) -> Option<&'m TargetEntry>
+    requires { IsText target.now }
+    ensures { option_copied result ≡ target_in manifest.now target.now }
+{
+    match target {
+        Some(name) => target_named(manifest, name),
+        None => manifest.default_target(),
+    }
+}
+
+/// Why a manifest has no such target.
+pub fn no_target(target: Option<Bytes>) -> Refusal
+    ensures { result ≡ no_target target }
+{
+    match target {
+        Some(name) => Refusal::UnknownTarget { name },
+        None => Refusal::NoDefault,
     }
 }
 
@@ -131,6 +169,7 @@ pub fn marks_of(
     match plan(alloc, manifest, target) {
         Ok(marks) => Ok(marks),
         Err(Unbuilt::Asker(asker)) => Err(Refusal::NotBuilt { asker }),
+        Err(Unbuilt::Later { command, node }) => Err(Refusal::LaterMaker { command, node }),
         Err(Unbuilt::NoMemory) => Err(Refusal::NoMemory),
     }
 }

@@ -1,5 +1,6 @@
 //! Why nothing is built.
-use build_report::report::{End, UsageFault};
+use build_report::report::End;
+use command_line::job::UsageFault;
 use file_info::list::Bytes;
 use file_info::memory::NoMemory;
 use file_info::name::Name;
@@ -8,10 +9,10 @@ use manifest_reader::error::LoadError;
 use outside::disk::DiskError;
 use outside::world::NoFault;
 
-/// Why words and manifest give no build.
+/// Why a job is declined.
 #[derive(Drop)]
 pub enum Refusal {
-    /// The words are no command line.
+    /// The words ask for no job that is served.
     Usage(UsageFault),
     /// The manifest is missing or no file.
     NoFile { path: PathName },
@@ -19,8 +20,12 @@ pub enum Refusal {
     Manifest(LoadError),
     /// The manifest has no target of this name.
     UnknownTarget { name: Bytes },
+    /// No target was named, and the manifest has no default.
+    NoDefault,
     /// The target, or a command that it needs, uses what is not built yet.
     NotBuilt { asker: Name },
+    /// A command of the target reads what it or a later command makes.
+    LaterMaker { command: Name, node: Name },
     /// The disk failed.
     DiskFault,
     /// No memory was left.
@@ -35,6 +40,20 @@ impl From<NoMemory> for Refusal {
 
     fn from(_error: NoMemory) -> Refusal {
         Refusal::NoMemory
+    }
+}
+
+impl From<UsageFault> for Refusal {
+    ghost use Rattle.std.specs.Prelude.{◌≡◌};
+    ghost use Rattle.llbuild_cli.specs.Open.{usage_refusal};
+
+    ghost from_gives = { λ fault refusal. refusal ≡ usage_refusal fault };
+
+    fn from(fault: UsageFault) -> Refusal {
+        match fault {
+            UsageFault::NoMemory => Refusal::NoMemory,
+            fault => Refusal::Usage(fault),
+        }
     }
 }
 
@@ -79,7 +98,9 @@ impl From<Refusal> for End<NoFault> {
             Refusal::NoFile { path } => End::NoFile { path },
             Refusal::Manifest(error) => End::Manifest(error),
             Refusal::UnknownTarget { name } => End::UnknownTarget { name },
+            Refusal::NoDefault => End::NoDefault,
             Refusal::NotBuilt { asker } => End::NotBuilt { asker },
+            Refusal::LaterMaker { command, node } => End::LaterMaker { command, node },
             Refusal::DiskFault => End::DiskFault,
             Refusal::NoMemory => End::NoMemory,
         }

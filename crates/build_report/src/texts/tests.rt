@@ -62,13 +62,6 @@ fn ends_have_their_lines(rt: HostRuntime) -> Result<(), Fail> {
         1,
         "error: all needs ./a//b, which is missing\n",
     )?;
-    told(
-        &rt,
-        alloc,
-        End::Usage(UsageFault::Words),
-        2,
-        "error: usage: the words are refused\n",
-    )?;
     let path = PathName::read(alloc, "a\n\x1f\x7f\\b")?;
     told(
         &rt,
@@ -85,6 +78,11 @@ fn ends_have_their_lines(rt: HostRuntime) -> Result<(), Fail> {
         2,
         "error: unknown target \\x00 ~\u{80}\n",
     )?;
+    let line = "error: no default target\n";
+    told(&rt, alloc, End::NoDefault, 2, line)?;
+    let (command, node) = (self::name(alloc, "p")?, self::name(alloc, "u")?);
+    let line = "error: command p needs u, which a later command makes\n";
+    told(&rt, alloc, End::LaterMaker { command, node }, 1, line)?;
     told(&rt, alloc, End::DiskFault, 3, "error: the disk failed\n")?;
     let command = self::name(alloc, "c")?;
     told(
@@ -174,6 +172,31 @@ fn refused_manifests_have_their_lines(rt: HostRuntime) -> Result<(), Fail> {
         refused(&rt, alloc, YamlError::LeftOut { feature, at: 5 }, line)?;
     }
     Ok(())
+}
+
+// Words are refused with this line.
+fn misused(rt: &impl Abort, alloc: Global, fault: UsageFault, line: &str) -> Result<(), Fail> {
+    told(rt, alloc, End::Usage(fault), 2, line)
+}
+
+#[test]
+fn refused_words_have_their_lines(rt: HostRuntime) -> Result<(), Fail> {
+    let alloc = rt.alloc();
+    let line = "error: usage: no such command\n";
+    misused(&rt, alloc, UsageFault::NoCommand, line)?;
+    let line = "error: usage: the words are refused\n";
+    misused(&rt, alloc, UsageFault::Words, line)?;
+    let option = bytes(alloc, "--max-commands")?;
+    let line = "error: usage: bad number for --max-commands\n";
+    misused(&rt, alloc, UsageFault::BadNumber { option }, line)?;
+    let option = bytes(alloc, "-f")?;
+    let line = "error: usage: bad path for -f\n";
+    misused(&rt, alloc, UsageFault::BadPath { option }, line)?;
+    let (first, second) = (bytes(alloc, "--db")?, bytes(alloc, "--no-db")?);
+    let line = "error: usage: --db excludes --no-db\n";
+    misused(&rt, alloc, UsageFault::Exclusive { first, second }, line)?;
+    let line = "error: usage: not built yet\n";
+    misused(&rt, alloc, UsageFault::NotBuilt, line)
 }
 
 // A manifest is refused with this line.

@@ -1,70 +1,63 @@
-use Rattle.std.proofs.Common.{refl, sym, ap, map}
-use Rattle.std.specs.Prelude.{string_bytes, Result, Ok, Err}
+use Rattle.std.proofs.Common.{map, ap, sym, subst, ◌∙◌}
+use Rattle.std.specs.Prelude.{string_bytes, Ok}
 use Rattle.std.specs.Global.{Global}
-use Rattle.outside.specs.declared.world.NoFault.{NoFault}
-use Rattle.build_report.specs.declared.report.End.{End}
-use Rattle.llbuild_cli.specs.declared.refusal.Refusal.TheVariants.{UnknownTarget}
-use Rattle.llbuild_cli.specs.Plan.{Plan, refused_end}
-use Rattle.llbuild_cli.specs.Run.{Answers, answers_of}
+use Rattle.command_line.specs.declared.job.Job.{Job}
+use Rattle.command_line.specs.declared.job.Job.TheVariants as jobs
+use Rattle.llbuild_cli.specs.Course.{ParseCourse}
 use Rattle.llbuild_cli.specs.Finish.{end_in}
-use Rattle.llbuild_cli.specs.Stop.{end_of}
+use Rattle.llbuild_cli.specs.Journal.{Journal}
+use Rattle.llbuild_cli.specs.Plan.{refused_end}
+use Rattle.llbuild_cli.specs.Run.{Answers, answers_of, report_of, run_of}
 use Rattle.llbuild_cli.proofs.ProgressLemmas.{known_err}
-use Rattle.llbuild_cli.proofs.OpenLemmas.{opened_plan, opened_unbuilt, opened_unknown}
-use Rattle.llbuild_cli.proofs.RunLemmas.{declined, declined_err, planned_err}
+use Rattle.llbuild_cli.proofs.RunLemmas.{left_stayed, served, served_none, served_unbuilt}
 use Rattle.llbuild_cli.proofs.run.serve.Goals as goal
 
-pub returns-in_err-manifest : goal.returns-in_err-manifest
-returns-in_err-manifest g c =
-    let view = g.W.Disk.view in
+pub returns-in_err-file : goal.returns-in_err-file
+returns-in_err-file g c =
     let answers : Answers = answers_of g.L.Law.does g.W.World.ended g.W.Disk.gave in
-    let refusal = c.in_err-manifest.field-0.0 in
-    declined_err answers (view c.args.world.now) (view c.open.new.world) (g.O.Sink.view c.args.out.now) (map (string_bytes {Z = Global}) c.args.words.now) c.args.seen.now c.from_residual.result refusal
-    (known_err c.from_residual.result (refused_end refusal) c.from_residual.ensures.1) c.requires.unused c.requires.none c.in_err-manifest.ensures.refused c.open.ensures.stayed
+    let refusal = c.in_err-file.field-0.0 in
+    served_none answers (map (string_bytes {Z = Global}) c.args.words.now) (g.W.Disk.view c.args.world.now) (g.O.Sink.view c.args.out.now) c.args.seen.now
+    c.from_residual.result refusal (known_err c.from_residual.result (refused_end refusal) c.from_residual.ensures.1) c.requires.unused c.requires.none
+    c.in_err-file.ensures.refused
+
+pub returns-in-Build : goal.returns-in-Build
+returns-in-Build g c =
+    let answers : Answers = answers_of g.L.Law.does g.W.World.ended g.W.Disk.gave in
+    let b = c.in-Build in
+    served answers _ (map (string_bytes {Z = Global}) c.args.words.now) (Ok (jobs.Build b.file b.db b.serial b.target b.settings))
+    (c.in_ok-file.ensures.ok ∙ ap (λ (j : Job). Ok j) b.is) c.build_target.ensures.course c.build_target.ensures.left
+
+pub returns-in-Parse : goal.returns-in-Parse
+returns-in-Parse g c =
+    let answers : Answers = answers_of g.L.Law.does g.W.World.ended g.W.Disk.gave in
+    let old = g.W.Disk.view c.args.world.now in
+    let new = g.W.Disk.view c.print_tree.new.world in
+    let out = g.O.Sink.view c.args.out.now in
+    let out' = g.O.Sink.view c.print_tree.new.out in
+    let end = end_in c.print_tree.result in
+    let course : ParseCourse g.W.Disk.gave (run_of old new out out' (report_of end c.args.seen.now)) c.in-Parse.file =
+    subst (λ (j : Journal). ParseCourse g.W.Disk.gave (run_of old new out out' (report_of end j)) c.in-Parse.file) (sym c.requires.unused)
+    c.print_tree.ensures.course in
+    served answers _ (map (string_bytes {Z = Global}) c.args.words.now) (Ok (jobs.Parse c.in-Parse.file))
+    (c.in_ok-file.ensures.ok ∙ ap (λ (j : Job). Ok j) c.in-Parse.is) course
+    (left_stayed old new out out' (report_of end c.args.seen.now) c.print_tree.ensures.stayed c.requires.none)
+
+pub returns-in-Dump : goal.returns-in-Dump
+returns-in-Dump g c =
+    let answers : Answers = answers_of g.L.Law.does g.W.World.ended g.W.Disk.gave in
+    served_unbuilt answers (map (string_bytes {Z = Global}) c.args.words.now) (g.W.Disk.view c.args.world.now) (g.O.Sink.view c.args.out.now)
+    c.args.seen.now (Ok (jobs.Dump c.in-Dump.db)) (c.in_ok-file.ensures.ok ∙ ap (λ (j : Job). Ok j) c.in-Dump.is) c.requires.unused c.requires.none (λ d. d)
+
+pub returns-in-Rehearse : goal.returns-in-Rehearse
+returns-in-Rehearse g c =
+    let answers : Answers = answers_of g.L.Law.does g.W.World.ended g.W.Disk.gave in
+    served_unbuilt answers (map (string_bytes {Z = Global}) c.args.words.now) (g.W.Disk.view c.args.world.now) (g.O.Sink.view c.args.out.now)
+    c.args.seen.now (Ok (jobs.Rehearse c.in-Rehearse.script)) (c.in_ok-file.ensures.ok ∙ ap (λ (j : Job). Ok j) c.in-Rehearse.is) c.requires.unused
+    c.requires.none (λ d. d)
 
 pub returns : goal.returns
 returns g c =
-    let view = g.W.Disk.view in
     let answers : Answers = answers_of g.L.Law.does g.W.World.ended g.W.Disk.gave in
-    let manifest = c.in_ok-manifest.field-0.manifest in
-    let target = c.in_ok-manifest.field-0.target in
-    declined answers (view c.args.world.now) (view c.open.new.world) (g.O.Sink.view c.args.out.now) (map (string_bytes {Z = Global}) c.args.words.now) c.args.seen.now (UnknownTarget target)
-    c.requires.unused c.requires.none (opened_unknown manifest target c.in_ok-manifest.ensures.ok (sym c.in-None.ensures)) c.open.ensures.stayed
-
-pub returns-in-Some : goal.returns-in-Some
-returns-in-Some g c =
-    let view = g.W.Disk.view in
-    let answers : Answers = answers_of g.L.Law.does g.W.World.ended g.W.Disk.gave in
-    let manifest = c.in_ok-manifest.field-0.manifest in
-    let target = c.in_ok-manifest.field-0.target in
-    let entry = c.in-Some.entry.now in
-    let plan : Plan = record { manifest = manifest; target = entry } in
-    let did = c.build.ensures.did in
-    planned_err answers (view c.args.world.now) (view c.open.new.world) (view c.build.new.world) (g.O.Sink.view c.args.out.now) (g.O.Sink.view c.build.new.out) (map (string_bytes {Z = Global}) c.args.words.now) c.build.new.seen plan
-    (Ok tt) (Ok tt) refl
-    (opened_plan manifest target entry c.in_ok-build-in-Some.ensures.did.apart.keeps c.in_ok-manifest.ensures.ok (sym c.in-Some.ensures) c.in_ok-marks-in-Some.ensures.built) c.open.ensures.stayed c.build.ensures.none c.build.ensures.begins c.in_ok-build-in-Some.ensures.did
-
-pub returns-in_err-marks-in-Some : goal.returns-in_err-marks-in-Some
-returns-in_err-marks-in-Some g c =
-    let view = g.W.Disk.view in
-    let answers : Answers = answers_of g.L.Law.does g.W.World.ended g.W.Disk.gave in
-    let manifest = c.in_ok-manifest.field-0.manifest in
-    let target = c.in_ok-manifest.field-0.target in
-    let entry = c.in-Some.entry.now in
-    let refusal = c.in_err-marks-in-Some.field-0.0 in
-    declined_err answers (view c.args.world.now) (view c.open.new.world) (g.O.Sink.view c.args.out.now) (map (string_bytes {Z = Global}) c.args.words.now) c.args.seen.now c.from_residual-in_err-marks-in-Some.result refusal
-    (known_err c.from_residual-in_err-marks-in-Some.result (refused_end refusal) c.from_residual-in_err-marks-in-Some.ensures.1) c.requires.unused c.requires.none
-    (opened_unbuilt manifest target entry refusal c.in_ok-manifest.ensures.ok (sym c.in-Some.ensures) c.in_err-marks-in-Some.ensures.refused) c.open.ensures.stayed
-
-pub returns-in_err-build-in-Some : goal.returns-in_err-build-in-Some
-returns-in_err-build-in-Some g c =
-    let view = g.W.Disk.view in
-    let answers : Answers = answers_of g.L.Law.does g.W.World.ended g.W.Disk.gave in
-    let manifest = c.in_ok-manifest.field-0.manifest in
-    let target = c.in_ok-manifest.field-0.target in
-    let entry = c.in-Some.entry.now in
-    let plan : Plan = record { manifest = manifest; target = entry } in
-    let stop = c.in_err-build-in-Some.field-0.0 in
-    let same = known_err c.from_residual-in_err-build-in-Some.result (end_of stop) c.from_residual-in_err-build-in-Some.ensures.1 in
-    planned_err answers (view c.args.world.now) (view c.open.new.world) (view c.build.new.world) (g.O.Sink.view c.args.out.now) (g.O.Sink.view c.build.new.out) (map (string_bytes {Z = Global}) c.args.words.now) c.build.new.seen plan
-    c.from_residual-in_err-build-in-Some.result (Err stop) (ap (λ (r : Result (Unit {0}) (End NoFault)). end_in r) same)
-    (opened_plan manifest target entry c.in_err-build-in-Some.ensures.did.apart.keeps c.in_ok-manifest.ensures.ok (sym c.in-Some.ensures) c.in_ok-marks-in-Some.ensures.built) c.open.ensures.stayed c.build.ensures.none c.build.ensures.begins c.in_err-build-in-Some.ensures.did
+    served_unbuilt answers (map (string_bytes {Z = Global}) c.args.words.now) (g.W.Disk.view c.args.world.now) (g.O.Sink.view c.args.out.now)
+    c.args.seen.now (Ok (jobs.Generate c.in-Generate.number c.in-Generate.size)) (c.in_ok-file.ensures.ok ∙ ap (λ (j : Job). Ok j) c.in-Generate.is)
+    c.requires.unused c.requires.none (λ d. d)

@@ -1,6 +1,6 @@
 use Rattle.std.proofs.Common.{◌≡◌, ℕ, List, true, sym, subst}
 use Rattle.std.specs.Str.{is_utf8}
-use Rattle.llbuild_cli.proofs.open.target_in.Goals as goal
+use Rattle.llbuild_cli.proofs.open.target_named.Goals as goal
 use Rattle.std.proofs.lemmas.Str.{IsUtf8-from_is_utf8}
 
 pub returns-in-Err : goal.returns-in-Err
