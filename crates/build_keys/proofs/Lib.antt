@@ -5,3 +5,4 @@ pub mod ItemLemmas
 pub mod VariantLemmas
 pub mod KeyLemmas
 pub mod NameLemmas
+pub mod OrderLemmas

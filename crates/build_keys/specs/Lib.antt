@@ -1,4 +1,5 @@
 pub mod Keys
 pub mod Reading
 pub mod KeyReading
+pub mod KeyOrder
 pub mod Results

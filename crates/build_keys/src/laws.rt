@@ -1,9 +1,12 @@
 //! The laws of keys and their spellings. Each function does nothing that is seen: what it ensures is the law, for a caller
 //! to use.
 ghost use Rattle.std.specs.Prelude.{◌≡◌, ℕ, [], ◌++◌, List as Items, Some};
+ghost use Rattle.std.specs.Cmp.{IsTotalOrder};
+ghost use Rattle.std.specs.declared.cmp.Ordering.TheVariants as orders;
 ghost use Rattle.build_keys.specs.Keys.{IsShort, IsNode, IsKey, HasPatterns, is_name, is_path, key_bytes};
 ghost use Rattle.build_keys.specs.Reading.{Reads};
 ghost use Rattle.build_keys.specs.KeyReading.{key_at};
+ghost use Rattle.build_keys.specs.KeyOrder.{key_cmp};
 ghost use Rattle.build_keys.specs.declared.key.Key.{Key as AnyKey};
 
 use crate::key::Key;
@@ -33,6 +36,16 @@ pub fn no_key_is_a_prefix()
     ensures { (a b : AnyKey) (r : Items ℕ) → IsKey a → IsKey b → key_bytes a ++ r ≡ key_bytes b → r ≡ [] }
 {}
 
+/// The order of keys is total.
+pub fn keys_are_ordered()
+    ensures { IsTotalOrder key_cmp }
+{}
+
+/// Keys that are equal in order are one key.
+pub fn no_two_keys_are_level()
+    ensures { (a b : AnyKey) → IsKey a → IsKey b → key_cmp a b ≡ orders.Equal → a ≡ b }
+{}
+
 /// The patterns of a key with a spelling have one.
 pub fn spelled_key_has_patterns()
     ensures { (key : AnyKey) → IsKey key → HasPatterns key }
@@ -46,7 +59,7 @@ fn name_has_a_spelling(name: &Name)
 }
 
 // A path has a spelling.
-fn path_has_a_spelling(path: &PathName)
+pub(crate) fn path_has_a_spelling(path: &PathName)
     ensures { IsShort is_path path.now }
 {
     path_is_accepted();

@@ -3,6 +3,7 @@
 
 pub mod key;
 pub mod laws;
+pub mod order;
 pub mod parts;
 pub mod read;
 mod tags;

@@ -3,6 +3,7 @@ ghost use Rattle.build_keys.specs.Keys.{HasPatterns};
 
 use crate::key::Key;
 use crate::laws::spelled_key_has_patterns;
+use crate::order::key_order;
 use crate::read::read_key;
 use crate::write::{push_key, write_key};
 use file_info::copied::Copied;
@@ -12,6 +13,7 @@ use file_info::node::NodeName;
 use file_info::path::PathName;
 use file_info::same::Same;
 use std::alloc::Global;
+use std::cmp::Ordering;
 use std::process::Abort;
 use std::test::Fail;
 
@@ -140,5 +142,99 @@ fn a_key_is_written_at_the_end(rt: HostRuntime) -> Result<(), Fail> {
     out.push(0xFF)?;
     write_key(alloc, &Key::Command(Name::read(alloc, "all")?), &mut out)?;
     assert_eq!(rt; out.as_slice(), b"\xFF\x02\0\0\0\x03all".as_slice());
+    Ok(())
+}
+
+// Sees that what is read of the bytes, if anything, has these very bytes as its spelling.
+fn is_the_only_spelling(rt: &impl Abort, alloc: Global, bytes: &[u8]) -> Result<(), Fail> {
+    let Some((key, long)) = read_key(alloc, bytes)? else {
+        return Ok(());
+    };
+    let mut again = Vec::new(alloc);
+    push_key(&mut again, &key)?;
+    assert_eq!(rt; again.len(), long, "of {bytes:?}");
+    assert!(rt; bytes.starts_with(again.as_slice()), "of {bytes:?}");
+    Ok(())
+}
+
+#[test]
+fn changed_bytes_are_another_key_or_none(rt: HostRuntime) -> Result<(), Fail> {
+    let alloc = rt.alloc();
+    for spelled in [
+        b"\x02\0\0\0\x03all".as_slice(),
+        b"\x03\0\0\0\0\x03s/l".as_slice(),
+        b"\x06\0\0\0\x01d\0\0\0\x02\0\0\0\x01*\0\0\0\0".as_slice(),
+    ] {
+        for place in 0..spelled.len() {
+            for byte in 0..=255 {
+                let mut bytes = Vec::from_slice(alloc, spelled)?;
+                bytes[place] = byte;
+                is_the_only_spelling(&rt, alloc, bytes.as_slice())?;
+            }
+        }
+    }
+    Ok(())
+}
+
+#[test]
+fn every_front_of_a_spelling_has_no_key(rt: HostRuntime) -> Result<(), Fail> {
+    let spelled = b"\x05\0\0\0\x01d\0\0\0\x02\0\0\0\x05*.tmp\0\0\0\0".as_slice();
+    for long in 0..spelled.len() {
+        is_read_as(&rt, rt.alloc(), &spelled[..long], None)?;
+    }
+    is_read_as(&rt, rt.alloc(), spelled, Some(23))?;
+    Ok(())
+}
+
+// Reads two keys, and sees that they are in this order.
+fn is_in_order(
+    rt: &impl Abort,
+    alloc: Global,
+    bytes: &[u8],
+    others: &[u8],
+    order: Ordering,
+) -> Result<(), Fail> {
+    let Some((key, _)) = read_key(alloc, bytes)? else {
+        assert!(rt; false, "nothing was read of {bytes:?}");
+        return Ok(());
+    };
+    let Some((other, _)) = read_key(alloc, others)? else {
+        assert!(rt; false, "nothing was read of {others:?}");
+        return Ok(());
+    };
+    spelled_key_has_patterns();
+    assert!(rt;
+        key_order(&key, &other) == order,
+        "at {bytes:?} and {others:?}"
+    );
+    assert!(rt;
+        key.same(&other) == order.is_eq(),
+        "at {bytes:?} and {others:?}"
+    );
+    Ok(())
+}
+
+#[test]
+fn keys_are_in_the_order_of_their_bytes(rt: HostRuntime) -> Result<(), Fail> {
+    let rising = [
+        b"\x01\0\0\0\x01b".as_slice(),
+        b"\x01\0\0\0\x02aa".as_slice(),
+        b"\x01\0\0\0\x02ab".as_slice(),
+        b"\x02\0\0\0\x01a".as_slice(),
+        b"\x03\0\0\0\0\x01b".as_slice(),
+        b"\x03\x01\0\0\0\x01a".as_slice(),
+        b"\x04\0\0\0\x01a".as_slice(),
+        b"\x05\0\0\0\x01a\0\0\0\0".as_slice(),
+        b"\x05\0\0\0\x01a\0\0\0\x01\0\0\0\x02aa".as_slice(),
+        b"\x05\0\0\0\x01a\0\0\0\x02\0\0\0\x01a\0\0\0\x01b".as_slice(),
+        b"\x05\0\0\0\x01a\0\0\0\x02\0\0\0\x01a\0\0\0\x01c".as_slice(),
+        b"\x05\0\0\0\x01b\0\0\0\0".as_slice(),
+        b"\x06\0\0\0\x01a\0\0\0\0".as_slice(),
+    ];
+    for (place, bytes) in rising.iter().enumerate() {
+        for (other_place, others) in rising.iter().enumerate() {
+            is_in_order(&rt, rt.alloc(), bytes, others, place.cmp(&other_place))?;
+        }
+    }
     Ok(())
 }
