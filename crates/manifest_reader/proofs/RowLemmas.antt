@@ -109,13 +109,13 @@ record FoundRow (rs : List Row) (tool : Tool) (name : List ℕ) (a : Attribute) 
 
 found_row : (rs : List Row) (tool : Tool) (name : List ℕ) (a : Attribute) → found_in rs tool name ≡ Some a → FoundRow rs tool name a
 found_row [] tool name a e = cc e
-found_row (r ∷ rs) tool name a e = go (group_of r.tool == group_of tool && bytes_eq name r.name) refl e (found_row rs tool name a)
+found_row (r ∷ rs) tool name a e = go (group_of r.tool == group_of tool && bytes_eq r.name name) refl e (found_row rs tool name a)
   where
-    go : (b : Bool) → (group_of r.tool == group_of tool && bytes_eq name r.name) ≡ b → cond b (Some r.attribute) (found_in rs tool name) ≡ Some a
+    go : (b : Bool) → (group_of r.tool == group_of tool && bytes_eq r.name name) ≡ b → cond b (Some r.attribute) (found_in rs tool name) ≡ Some a
         → (found_in rs tool name ≡ Some a → FoundRow rs tool name a) → FoundRow (r ∷ rs) tool name a
     go true h f later =
-        let (t, n) = and_parts (group_of r.tool == group_of tool) (bytes_eq name r.name) h in
-        record { row = r; there = inl refl; of_tool = same_tool r.tool tool t; named = (bytes_eq-Decides name r.name).0 n; is = cc f }
+        let (t, n) = and_parts (group_of r.tool == group_of tool) (bytes_eq r.name name) h in
+        record { row = r; there = inl refl; of_tool = same_tool r.tool tool t; named = sym ((bytes_eq-Decides r.name name).0 n); is = cc f }
     go false h f later =
         let found = later f in
         record { row = found.row; there = inr found.there; of_tool = found.of_tool; named = found.named; is = found.is }

@@ -1,5 +1,4 @@
 pub mod Rows
-pub mod Attributes
 pub mod Commands
 pub mod Sections
 pub mod Load

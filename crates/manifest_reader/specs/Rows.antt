@@ -1,6 +1,7 @@
 -- Which attributes each tool has.
 use Rattle.std.specs.Prelude.{ℕ, ◌==◌, ◌&&◌, List, [], ◌∷◌, if◌then◌else◌, map, Option, Some, None, bytes_eq, codes}
-use Rattle.std.specs.List.{flat_map}
+use Rattle.std.specs.List.{find, flat_map}
+use Rattle.std.specs.Option.{option_map}
 use Rattle.build_manifest.specs.declared.command.Tool.{Tool}
 use Rattle.build_manifest.specs.declared.command.Tool.TheVariants.{Phony, Shell, Mkdir, Symlink, Archive, StaleFileRemoval}
 use Rattle.manifest_reader.specs.declared.attributes.Attribute.{Attribute}
@@ -63,11 +64,39 @@ group_of StaleFileRemoval = 5
 -- the attribute of the first of these rows with this tool and this name
 abbrev pub found_in : List Row → Tool → List ℕ → Option Attribute
 found_in [] tool name = None
-found_in (r ∷ rs) tool name = if group_of r.tool == group_of tool && bytes_eq name r.name then Some r.attribute else found_in rs tool name
+found_in (r ∷ rs) tool name = if group_of r.tool == group_of tool && bytes_eq r.name name then Some r.attribute else found_in rs tool name
 
 -- the attribute of this name that the tool has
 unfoldable pub attribute_of : Tool → List ℕ → Option Attribute
 attribute_of tool name = found_in rows tool name
+
+-- the code of an attribute in the table
+abbrev pub code_of : Attribute → ℕ
+code_of attribute.Tool = 1
+code_of attribute.Inputs = 2
+code_of attribute.Outputs = 3
+code_of attribute.Description = 4
+code_of attribute.MustFollow = 5
+code_of attribute.AllowMissingInputs = 6
+code_of attribute.AlwaysOutOfDate = 7
+code_of attribute.Args = 8
+code_of attribute.Env = 9
+code_of attribute.Deps = 10
+code_of attribute.DepsStyle = 11
+code_of attribute.InheritEnv = 12
+code_of attribute.Signature = 13
+code_of attribute.Contents = 14
+code_of attribute.ExpectedOutputs = 15
+code_of attribute.Roots = 16
+
+-- the code of the first of these rows with a tool of this number and this name
+abbrev pub code_in : List Row → ℕ → List ℕ → Option ℕ
+code_in [] group name = None
+code_in (r ∷ rs) group name = if group_of r.tool == group && bytes_eq r.name name then Some (code_of r.attribute) else code_in rs group name
+
+-- the attribute of this code
+abbrev pub attribute_at : ℕ → Option Attribute
+attribute_at code = option_map (λ (l : Line). l.attribute) (find (λ (l : Line). code_of l.attribute == code) lines)
 
 -- the tool of this name
 unfoldable pub tool_named : List ℕ → Option Tool

@@ -1,9 +1,10 @@
 //! The attributes of commands.
 ghost use Rattle.std.specs.Prelude.{◌≡◌};
 ghost use Rattle.manifest_reader.specs.Rows as spec;
-ghost use Rattle.manifest_reader.specs.Attributes as names;
 
 use build_manifest::command::Tool;
+use case_table::cases::Cases;
+use case_table::{case_rows, each_case};
 
 /// An attribute of a command.
 #[derive(Clone, Copy, Debug, PartialEq, Eq)]
@@ -52,105 +53,95 @@ pub fn tool_named(name: &[u8]) -> Option<Tool>
     None
 }
 
-// The attribute of this name, where all tools have it.
-fn common_attribute(name: &[u8]) -> Option<Attribute>
-    ensures { result ≡ names.common_attribute name.now }
-{
-    if name == b"tool".as_slice() {
-        return Some(Attribute::Tool);
-    }
-    if name == b"inputs".as_slice() {
-        return Some(Attribute::Inputs);
-    }
-    if name == b"outputs".as_slice() {
-        return Some(Attribute::Outputs);
-    }
-    if name == b"description".as_slice() {
-        return Some(Attribute::Description);
-    }
-    None
-}
+const PHONY: u8 = 0;
 
-// The attribute of this name, where all tools with inputs have it.
-fn asking_attribute(name: &[u8]) -> Option<Attribute>
-    ensures { result ≡ names.asking_attribute name.now }
-{
-    if name == b"must-follow".as_slice() {
-        return Some(Attribute::MustFollow);
-    }
-    if name == b"allow-missing-inputs".as_slice() {
-        return Some(Attribute::AllowMissingInputs);
-    }
-    if name == b"always-out-of-date".as_slice() {
-        return Some(Attribute::AlwaysOutOfDate);
-    }
-    None
-}
+const SHELL: u8 = 1;
 
-// The attribute of this name, where `shell` alone has it.
-fn shell_attribute(name: &[u8]) -> Option<Attribute>
-    ensures { result ≡ names.shell_attribute name.now }
-{
-    if name == b"args".as_slice() {
-        return Some(Attribute::Args);
-    }
-    if name == b"env".as_slice() {
-        return Some(Attribute::Env);
-    }
-    if name == b"deps".as_slice() {
-        return Some(Attribute::Deps);
-    }
-    if name == b"deps-style".as_slice() {
-        return Some(Attribute::DepsStyle);
-    }
-    if name == b"inherit-env".as_slice() {
-        return Some(Attribute::InheritEnv);
-    }
-    if name == b"signature".as_slice() {
-        return Some(Attribute::Signature);
-    }
-    None
-}
+const MKDIR: u8 = 2;
 
-// The attribute of this name, where `symlink` alone has it.
-fn link_attribute(name: &[u8]) -> Option<Attribute>
-    ensures { result ≡ names.link_attribute name.now }
-{
-    if name == b"contents".as_slice() {
-        return Some(Attribute::Contents);
-    }
-    None
-}
+const SYMLINK: u8 = 3;
 
-// The attribute of this name, where `stale-file-removal` alone has it.
-fn removal_attribute(name: &[u8]) -> Option<Attribute>
-    ensures { result ≡ names.removal_attribute name.now }
-{
-    if name == b"expectedOutputs".as_slice() {
-        return Some(Attribute::ExpectedOutputs);
-    }
-    if name == b"roots".as_slice() {
-        return Some(Attribute::Roots);
-    }
-    None
-}
+const ARCHIVE: u8 = 4;
 
-// The attribute of this name that the tool has and some others lack.
-fn own_attribute(tool: Tool, name: &[u8]) -> Option<Attribute>
-    ensures { result ≡ names.own_attribute tool name.now }
+const STALE_FILE_REMOVAL: u8 = 5;
+
+/// The table of attributes: a row for each attribute and each tool that has it. A tool is a group.
+pub const ATTRIBUTES: Cases<48> = case_rows![
+    "tool" = 1 in PHONY SHELL MKDIR SYMLINK ARCHIVE STALE_FILE_REMOVAL,
+    "inputs" = 2 in PHONY SHELL MKDIR SYMLINK ARCHIVE STALE_FILE_REMOVAL,
+    "outputs" = 3 in PHONY SHELL MKDIR SYMLINK ARCHIVE STALE_FILE_REMOVAL,
+    "description" = 4 in PHONY SHELL MKDIR SYMLINK ARCHIVE STALE_FILE_REMOVAL,
+    "must-follow" = 5 in PHONY SHELL MKDIR SYMLINK ARCHIVE,
+    "allow-missing-inputs" = 6 in PHONY SHELL MKDIR SYMLINK ARCHIVE,
+    "always-out-of-date" = 7 in PHONY SHELL MKDIR SYMLINK ARCHIVE,
+    "args" = 8 in SHELL,
+    "env" = 9 in SHELL,
+    "deps" = 10 in SHELL,
+    "deps-style" = 11 in SHELL,
+    "inherit-env" = 12 in SHELL,
+    "signature" = 13 in SHELL,
+    "contents" = 14 in SYMLINK,
+    "expectedOutputs" = 15 in STALE_FILE_REMOVAL,
+    "roots" = 16 in STALE_FILE_REMOVAL,
+];
+
+// The group of a tool.
+fn group_of(tool: Tool) -> u8
+    ensures { result ≡ spec.group_of tool }
 {
     match tool {
-        Tool::Phony | Tool::Mkdir | Tool::Archive => asking_attribute(name),
-        Tool::Shell => asking_attribute(name).or_else(|| shell_attribute(name)),
-        Tool::Symlink => asking_attribute(name).or_else(|| link_attribute(name)),
-        Tool::StaleFileRemoval => removal_attribute(name),
+        Tool::Phony => PHONY,
+        Tool::Shell => SHELL,
+        Tool::Mkdir => MKDIR,
+        Tool::Symlink => SYMLINK,
+        Tool::Archive => ARCHIVE,
+        Tool::StaleFileRemoval => STALE_FILE_REMOVAL,
     }
+}
+
+// The code of the attribute of this name that the tool of this group has.
+fn code_of(group: u8, name: &[u8]) -> Option<u16>
+    ensures { result ≡ spec.code_in spec.rows group name.now }
+{
+    ATTRIBUTES.find_bytes(group, name)
+}
+
+macro_rules! some_attribute {
+    (() $attribute:ident) => {
+        Some(Attribute::$attribute)
+    };
+}
+
+// The attribute of a code.
+fn attribute_at(code: u16) -> Option<Attribute>
+    ensures { result ≡ spec.attribute_at code }
+{
+    each_case!(match code, some_attribute!() {
+        1 => (Tool),
+        2 => (Inputs),
+        3 => (Outputs),
+        4 => (Description),
+        5 => (MustFollow),
+        6 => (AllowMissingInputs),
+        7 => (AlwaysOutOfDate),
+        8 => (Args),
+        9 => (Env),
+        10 => (Deps),
+        11 => (DepsStyle),
+        12 => (InheritEnv),
+        13 => (Signature),
+        14 => (Contents),
+        15 => (ExpectedOutputs),
+        16 => (Roots),
+    } else None)
 }
 
 /// The attribute of this name that the tool has.
-#[tactic(auto, using(crate::proofs::AttributeLemmas::by_tool))]
 pub fn attribute_of(tool: Tool, name: &[u8]) -> Option<Attribute>
     ensures { result ≡ spec.attribute_of tool name.now }
 {
-    common_attribute(name).or_else(|| own_attribute(tool, name))
+    match code_of(group_of(tool), name) {
+        Some(code) => attribute_at(code),
+        None => None,
+    }
 }
