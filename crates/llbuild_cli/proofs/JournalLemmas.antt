@@ -10,7 +10,7 @@ use Rattle.std.specs.Prelude.{IfSome, IfNone}
 use Rattle.std.proofs.lemmas.Option.{slice_get_within}
 use Rattle.std.proofs.lemmas.List.{map-append}
 use Rattle.file_info.proofs.Lists.{In-either, In-index, In-left, In-one, In-right, distinct-more}
-use Rattle.file_info.specs.Reserved.{Reserved}
+use Rattle.reserved_list.specs.Reserved.{Reserved}
 use Rattle.file_info.specs.Lists.{In, IsDistinct}
 use Rattle.file_info.specs.declared.info.Info.{Info}
 use Rattle.outside.specs.declared.order.Exit.{Exit}

@@ -1,0 +1,4 @@
+// A list whose room is counted.
+#![tactic(auto)]
+
+pub mod reserved;
