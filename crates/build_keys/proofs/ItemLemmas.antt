@@ -14,7 +14,7 @@ items-more read n m before bytes item rest e r = ap (λ k. items_from read k bef
 one-more : {A : Type 0} (before : List A) (x : A) (xs : List A) → (before ++ x ∷ []) ++ xs ≡ before ++ x ∷ xs
 one-more before x xs = append_assoc before (x ∷ []) xs
 
-items-back : {A : Type 0} (spelled : A → List ℕ) (is : A → Type 0) (read : Reader A) → Reads spelled is read → (xs before : List A) (rest : List ℕ) → Each is xs
+pub items-back : {A : Type 0} (spelled : A → List ℕ) (is : A → Type 0) (read : Reader A) → Reads spelled is read → (xs before : List A) (rest : List ℕ) → Each is xs
     → items_from read (length xs) before (items_bytes spelled xs ++ rest) ≡ Some (before ++ xs, rest)
 items-back spelled is read r [] before rest h = ap (λ z. Some (z, rest)) (sym (append-nil before))
 items-back spelled is read r (x ∷ xs) before rest h =
@@ -24,14 +24,14 @@ items-back spelled is read r (x ∷ xs) before rest h =
     ∙ items-back spelled is read r xs (before ++ x ∷ []) rest h.1 ∙ ap (λ z. Some (z, rest)) (one-more before x xs)
 
 -- items that were read after those that were found before
-record AreRead {A : Type 0} (spelled : A → List ℕ) (is : A → Type 0) (n : ℕ) (before : List A) (bytes : List ℕ) (all : List A) (rest : List ℕ) : Type 0 where
-  items : List A
-  all_is : all ≡ before ++ items
-  many : length items ≡ n
-  whole : bytes ≡ items_bytes spelled items ++ rest
-  each : Each is items
+pub record AreRead {A : Type 0} (spelled : A → List ℕ) (is : A → Type 0) (n : ℕ) (before : List A) (bytes : List ℕ) (all : List A) (rest : List ℕ) : Type 0 where
+  pub items : List A
+  pub all_is : all ≡ before ++ items
+  pub many : length items ≡ n
+  pub whole : bytes ≡ items_bytes spelled items ++ rest
+  pub each : Each is items
 
-items-only : {A : Type 0} (spelled : A → List ℕ) (is : A → Type 0) (read : Reader A) → Reads spelled is read
+pub items-only : {A : Type 0} (spelled : A → List ℕ) (is : A → Type 0) (read : Reader A) → Reads spelled is read
     → (n : ℕ) (before : List A) (bytes : List ℕ) (all : List A) (rest : List ℕ) → items_from read n before bytes ≡ Some (all, rest)
     → AreRead spelled is n before bytes all rest
 items-only spelled is read r zero before bytes all rest e =

@@ -19,10 +19,10 @@ use Rattle.build_keys.proofs.VariantLemmas.{OnlyAfter, one-back, one-only, two-b
 name-reads : Reads text_bytes (IsShort is_name) (passing_at is_name)
 name-reads = passing-reads is_name
 
-path-reads : Reads text_bytes (IsShort is_path) (passing_at is_path)
+pub path-reads : Reads text_bytes (IsShort is_path) (passing_at is_path)
 path-reads = passing-reads is_path
 
-patterns-read : Reads (list_bytes text_bytes) ArePatterns patterns_at
+pub patterns-read : Reads (list_bytes text_bytes) ArePatterns patterns_at
 patterns-read = list-reads text_bytes (IsShort is_utf8) (passing_at is_utf8) (passing-reads is_utf8)
 
 node-back : (node : NodeName) (rest : List ℕ) → IsNode node → node_at (node_bytes node ++ rest) ≡ Some (node, rest)

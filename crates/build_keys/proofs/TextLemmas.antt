@@ -10,7 +10,7 @@ use Rattle.build_keys.proofs.OptionLemmas.{found, held, step, when-true, first-s
 use Rattle.build_keys.proofs.CountLemmas.{IsCount, count-reads}
 
 -- the number of the text's bytes fits the four bytes of a count
-abbrev HasCount : List ℕ → Type 0
+abbrev pub HasCount : List ℕ → Type 0
 HasCount text = IsCount (length text)
 
 text-back : (text rest : List ℕ) → HasCount text → text_at (text_bytes text ++ rest) ≡ Some (text, rest)
@@ -39,6 +39,9 @@ text-only bytes text rest e =
       whole = count.whole ∙ ap (λ z. count_bytes n ++ z) all ∙ sym (append_assoc (count_bytes n) text rest) ∙ ap (λ z. count_bytes z ++ text ++ rest) size;
       has_one = let P : ℕ → Type 0 = IsCount in subst P size count.has_one;
     }
+
+pub text-reads : Reads text_bytes HasCount text_at
+text-reads = record { back = text-back; only = text-only }
 
 passing-back : (test : List ℕ → Bool) (text rest : List ℕ) → IsShort test text → passing_at test (text_bytes text ++ rest) ≡ Some (text, rest)
 unfolding passing_at

@@ -1,5 +1,5 @@
 -- A thing of a tag and one part or two: what is read is what was spelled, and nothing else.
-use Rattle.std.proofs.Common.{◌≡◌, ℕ, List, ◌∷◌, ◌++◌, Some, sym, ◌∙◌, ap, subst, append_assoc}
+use Rattle.std.proofs.Common.{◌≡◌, ℕ, List, [], ◌∷◌, ◌++◌, Some, sym, ◌∙◌, ap, subst, append_assoc}
 use Rattle.build_keys.specs.Reading.{Reader, IsRead, Reads, one_in, two_in}
 use Rattle.build_keys.proofs.OptionLemmas.{found, step, first-same, second-same}
 
@@ -47,11 +47,21 @@ two-back made one_spelled one_is read_one two_spelled two_is read_two r q one tw
     ap (two_in made read_one read_two) (append_assoc (one_spelled one) (two_spelled two) rest)
     ∙ step (read_one (one_spelled one ++ behind)) _ (one, behind) (r.back one behind h) ∙ step (read_two behind) _ (two, rest) (q.back two rest k)
 
-pub two-only : {A B C : Type 0} (number : ℕ) (made : A → B → C) (one_spelled : A → List ℕ) (one_is : A → Type 0) (read_one : Reader A)
-    (two_spelled : B → List ℕ) (two_is : B → Type 0) (read_two : Reader B) (spelled : C → List ℕ) (is : C → Type 0)
-    → Reads one_spelled one_is read_one → Reads two_spelled two_is read_two → IsTwo number made one_spelled one_is two_spelled two_is spelled is
-    → OnlyAfter number spelled is (two_in made read_one read_two)
-two-only number made one_spelled one_is read_one two_spelled two_is read_two spelled is r q v tag bytes thing rest t e =
+-- what was read as two parts
+pub record IsReadTwo {A B C : Type 0} (made : A → B → C) (one_spelled : A → List ℕ) (one_is : A → Type 0) (two_spelled : B → List ℕ) (two_is : B → Type 0)
+    (bytes : List ℕ) (thing : C) (rest : List ℕ) : Type 0 where
+  pub one : A
+  pub two : B
+  pub same : made one two ≡ thing
+  pub whole : bytes ≡ (one_spelled one ++ two_spelled two) ++ rest
+  pub has_one : one_is one
+  pub has_two : two_is two
+
+pub two-parts : {A B C : Type 0} (made : A → B → C) (one_spelled : A → List ℕ) (one_is : A → Type 0) (read_one : Reader A)
+    (two_spelled : B → List ℕ) (two_is : B → Type 0) (read_two : Reader B) → Reads one_spelled one_is read_one → Reads two_spelled two_is read_two
+    → (bytes : List ℕ) (thing : C) (rest : List ℕ) → two_in made read_one read_two bytes ≡ Some (thing, rest)
+    → IsReadTwo made one_spelled one_is two_spelled two_is bytes thing rest
+two-parts made one_spelled one_is read_one two_spelled two_is read_two r q bytes thing rest e =
     let got = found (read_one bytes) _ (thing, rest) e in
     let one = got.middle.0 in
     let first = r.only bytes one got.middle.1 got.first_is in
@@ -59,11 +69,35 @@ two-only number made one_spelled one_is read_one two_spelled two_is read_two spe
     let two = more.middle.0 in
     let behind = more.middle.1 in
     let second = q.only got.middle.1 two behind more.first_is in
-    let same = first-same (made one two) thing behind rest more.next_is in
     let left = second-same (made one two) thing behind rest more.next_is in
     record {
-      whole = ap (λ z. z ∷ bytes) t
-          ∙ ap (λ z. number ∷ z) (first.whole ∙ ap (λ z. one_spelled one ++ z) second.whole ∙ sym (append_assoc (one_spelled one) (two_spelled two) behind))
-          ∙ ap (λ z. z ++ behind) (sym (v.bytes one two)) ∙ ap (λ z. spelled z ++ behind) same ∙ ap (λ z. spelled thing ++ z) left;
-      has_one = let P : _ → Type 0 = is in subst P same (v.has_one one two first.has_one second.has_one);
+      one = one;
+      two = two;
+      same = first-same (made one two) thing behind rest more.next_is;
+      whole = first.whole ∙ ap (λ z. one_spelled one ++ z) second.whole ∙ sym (append_assoc (one_spelled one) (two_spelled two) behind)
+          ∙ ap (λ z. (one_spelled one ++ two_spelled two) ++ z) left;
+      has_one = first.has_one;
+      has_two = second.has_one;
+    }
+
+pub two-only : {A B C : Type 0} (number : ℕ) (made : A → B → C) (one_spelled : A → List ℕ) (one_is : A → Type 0) (read_one : Reader A)
+    (two_spelled : B → List ℕ) (two_is : B → Type 0) (read_two : Reader B) (spelled : C → List ℕ) (is : C → Type 0)
+    → Reads one_spelled one_is read_one → Reads two_spelled two_is read_two → IsTwo number made one_spelled one_is two_spelled two_is spelled is
+    → OnlyAfter number spelled is (two_in made read_one read_two)
+two-only number made one_spelled one_is read_one two_spelled two_is read_two spelled is r q v tag bytes thing rest t e =
+    let read = two-parts made one_spelled one_is read_one two_spelled two_is read_two r q bytes thing rest e in
+    record {
+      whole = ap (λ z. z ∷ bytes) t ∙ ap (λ z. number ∷ z) read.whole ∙ ap (λ z. z ++ rest) (sym (v.bytes read.one read.two)) ∙ ap (λ z. spelled z ++ rest) read.same;
+      has_one = let P : _ → Type 0 = is in subst P read.same (v.has_one read.one read.two read.has_one read.has_two);
+    }
+
+-- a variant without parts
+pub bare-only : {B : Type 0} (number : ℕ) (made : B) (spelled : B → List ℕ) (is : B → Type 0) → spelled made ≡ number ∷ [] → is made
+    → OnlyAfter number spelled is (λ bytes. Some (made, bytes))
+bare-only number made spelled is b h tag bytes thing rest t e =
+    let same = first-same made thing bytes rest e in
+    let left = second-same made thing bytes rest e in
+    record {
+      whole = ap (λ z. z ∷ bytes) t ∙ ap (λ z. z ++ bytes) (sym b) ∙ ap (λ z. spelled z ++ bytes) same ∙ ap (λ z. spelled thing ++ z) left;
+      has_one = let P : _ → Type 0 = is in subst P same h;
     }

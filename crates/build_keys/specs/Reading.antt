@@ -1,5 +1,6 @@
 -- Reading from the front of bytes: a thing whose spelling comes first, and the bytes that follow it.
-use Rattle.std.specs.Prelude.{◌≡◌, ℕ, zero, suc, ◌^◌, ◌&&◌, Bool, true, false, List, [], ◌∷◌, ◌++◌, length, take, drop, nat_lt, nat_le, Option, Some, None, bytes_eq}
+use Rattle.std.specs.Prelude.{◌≡◌, ℕ, zero, suc, ◌^◌, ◌&&◌, Bool, true, false, List, [], ◌∷◌, ◌++◌, length, take, drop, nat_lt, nat_le, Option}
+use Rattle.std.specs.Prelude.{Some, None, bytes_eq}
 use Rattle.std.specs.Int.{w32, from_be_bytes}
 use Rattle.spelling.specs.Spelling.{count_bytes}
 

@@ -1,6 +1,5 @@
 -- What a function that reads returned.
-use Rattle.std.specs.Prelude.{◌≡◌, ℕ, true, List, Option, Some, None, Result, Ok, Err}
-use Rattle.std.specs.Str.{is_utf8}
+use Rattle.std.specs.Prelude.{◌≡◌, Option, Some, None, Result, Ok, Err}
 use Rattle.build_keys.specs.declared.unread.Unread.{Unread}
 use Rattle.build_keys.specs.declared.unread.Unread.TheVariants as unread
 
@@ -13,8 +12,3 @@ Refuses unread.NoSpelling expected = expected ≡ None
 abbrev pub Gives : {A B : Type 0} → (A → B) → Result A Unread → Option B → Type 0
 Gives view (Ok found) expected = expected ≡ Some (view found)
 Gives view (Err error) expected = Refuses error expected
-
--- the text has these bytes, which are UTF-8
-pub record IsTextOf (bytes text : List ℕ) : Type 0 where
-  pub same : text ≡ bytes
-  pub utf8 : is_utf8 bytes ≡ true

@@ -58,8 +58,8 @@ fn name_has_a_spelling(name: &Name)
     let _bytes = name.text().as_bytes();
 }
 
-// A path has a spelling.
-pub(crate) fn path_has_a_spelling(path: &PathName)
+/// A path has a spelling.
+pub fn path_has_a_spelling(path: &PathName)
     ensures { IsShort is_path path.now }
 {
     path_is_accepted();

@@ -79,7 +79,8 @@ fn listed_order(
 ) -> Ordering
     requires first { ArePatterns patterns.now }
     requires second { ArePatterns other_patterns.now }
-    ensures { result ≡ slice_cmp nat_cmp (text_bytes path.now ++ list_bytes text_bytes patterns.now) (text_bytes other.now ++ list_bytes text_bytes other_patterns.now) }
+    ensures { result ≡ slice_cmp nat_cmp (text_bytes path.now ++ list_bytes text_bytes patterns.now)
+        (text_bytes other.now ++ list_bytes text_bytes other_patterns.now) }
 {
     path_has_a_spelling(path);
     path_has_a_spelling(other);

@@ -1,16 +1,17 @@
 //! The parts of a spelling. Each function reads a part from the front of bytes, and lends what follows it.
-ghost use Rattle.std.specs.Prelude.{◌≡◌, ◌≤◌, false, length, IfOk, MatchOption};
+ghost use Rattle.std.specs.Prelude.{◌≡◌, ◌≤◌, length, IfOk};
 ghost use Rattle.std.specs.Str.{is_utf8};
 ghost use Rattle.build_keys.specs.Keys.{is_name, is_path};
 ghost use Rattle.build_keys.specs.Reading.{count_at, text_at, passing_at};
 ghost use Rattle.build_keys.specs.KeyReading.{patterns_at, node_at};
-ghost use Rattle.build_keys.specs.Results.{Gives, IsTextOf};
+ghost use Rattle.build_keys.specs.Results.{Gives};
 
 use crate::unread::Unread;
 use file_info::list::{Bytes, List};
 use file_info::name::{Name, NameError};
 use file_info::node::NodeName;
 use file_info::path::{PathError, PathName};
+use name_list::text::utf8_text;
 use std::alloc::Global;
 
 /// A count in four bytes, the highest first. It takes no memory.
@@ -38,16 +39,6 @@ pub fn read_text(bytes: &[u8]) -> Result<(&[u8], &[u8]), Unread>
     Ok((&rest[..count], &rest[count..]))
 }
 
-// The text of these bytes, where they are UTF-8.
-fn utf8(bytes: &[u8]) -> Option<&str>
-    ensures { MatchOption result (is_utf8 bytes.now ≡ false) (λ text. IsTextOf bytes.now text.now) }
-{
-    match std::str::from_utf8(bytes) {
-        Ok(text) => Some(text),
-        Err(_) => None,
-    }
-}
-
 /// A text that is a name.
 #[tactic(auto, unfolding(crate::specs::Reading::passing_at))]
 pub fn read_name(alloc: Global, bytes: &[u8]) -> Result<(Name, &[u8]), Unread>
@@ -55,7 +46,7 @@ pub fn read_name(alloc: Global, bytes: &[u8]) -> Result<(Name, &[u8]), Unread>
     ensures shorter { IfOk result (λ x. length x.1.now ≤ length bytes.now) }
 {
     let (text, rest) = read_text(bytes)?;
-    let Some(text) = utf8(text) else {
+    let Some(text) = utf8_text(text) else {
         return Err(Unread::NoSpelling);
     };
     match Name::read(alloc, text) {
@@ -72,7 +63,7 @@ pub fn read_path(alloc: Global, bytes: &[u8]) -> Result<(PathName, &[u8]), Unrea
     ensures shorter { IfOk result (λ x. length x.1.now ≤ length bytes.now) }
 {
     let (text, rest) = read_text(bytes)?;
-    let Some(text) = utf8(text) else {
+    let Some(text) = utf8_text(text) else {
         return Err(Unread::NoSpelling);
     };
     match PathName::read(alloc, text) {
@@ -89,7 +80,7 @@ fn read_pattern(alloc: Global, bytes: &[u8]) -> Result<(Bytes, &[u8]), Unread>
     ensures shorter { IfOk result (λ x. length x.1.now ≤ length bytes.now) }
 {
     let (text, rest) = read_text(bytes)?;
-    if utf8(text).is_none() {
+    if utf8_text(text).is_none() {
         return Err(Unread::NoSpelling);
     }
     Ok((List::from_vec(Vec::from_slice(alloc, text)?), rest))

@@ -56,8 +56,8 @@ pub fn push_key(out: &mut Vec<u8>, key: &Key) -> Result<(), NoMemory>
     })
 }
 
-// Adds bytes at the end of a list, or leaves it as it was.
-fn append(alloc: Global, out: &mut Bytes, more: &[u8]) -> Result<(), NoMemory>
+/// Adds bytes at the end of a list. Without memory it is as before.
+pub fn append(alloc: Global, out: &mut Bytes, more: &[u8]) -> Result<(), NoMemory>
     ensures ok { OnOk result (out.new ≡ out.old ++ more.now) }
     ensures err { OnErr result (out.new ≡ out.old) }
 {

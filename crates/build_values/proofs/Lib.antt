@@ -1,0 +1,4 @@
+pub mod NumLemmas
+pub mod ValueLemmas
+pub mod LengthLemmas
+pub mod PartLemmas
