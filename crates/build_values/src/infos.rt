@@ -17,7 +17,6 @@ use file_info::list::List;
 use file_info::memory::NoMemory;
 use file_info::node::{ShapeEntry, TreeEntry};
 use file_info::path::PathName;
-use file_info::same::Same;
 use spelling::push_text;
 use std::alloc::Global;
 
@@ -116,10 +115,6 @@ impl Item for Info {
         Ok(())
     }
 
-    fn equals(&self, other: &Info) -> bool {
-        self.same(other)
-    }
-
     fn spelled_len(&self) -> u64 {
         match self {
             Info::Missing | Info::Directory => 1,
@@ -173,10 +168,6 @@ impl Item for PathName {
         push_text(out, self.text().as_bytes())
     }
 
-    fn equals(&self, other: &PathName) -> bool {
-        self.same(other)
-    }
-
     fn spelled_len(&self) -> u64 {
         text_len(self.text().len())
     }
@@ -203,10 +194,6 @@ impl Item for TreeEntry {
     fn push_to(&self, out: &mut Vec<u8>) -> Result<(), NoMemory> {
         self.path.push_to(out)?;
         self.info.push_to(out)
-    }
-
-    fn equals(&self, other: &TreeEntry) -> bool {
-        self.path.same(&other.path) && self.info.same(&other.info)
     }
 
     fn spelled_len(&self) -> u64 {
@@ -264,10 +251,6 @@ impl Item for ShapeEntry {
     fn push_to(&self, out: &mut Vec<u8>) -> Result<(), NoMemory> {
         self.path.push_to(out)?;
         push_kind(out, self.kind)
-    }
-
-    fn equals(&self, other: &ShapeEntry) -> bool {
-        self.path.same(&other.path) && self.kind == other.kind
     }
 
     fn spelled_len(&self) -> u64 {

@@ -1,5 +1,5 @@
 //! What stands in the lists of a value.
-ghost use Rattle.std.specs.Prelude.{◌≡◌, ◌↔◌, ℕ, ◌++◌, ◌<◌, ◌≤◌, ◌^◌, List as Items, length, IfOk, OnOk, IsTrue};
+ghost use Rattle.std.specs.Prelude.{◌≡◌, ℕ, ◌++◌, ◌<◌, ◌≤◌, ◌^◌, List as Items, length, IfOk, OnOk};
 ghost use Rattle.spelling.specs.Spelling.{items_bytes, list_bytes};
 ghost use Rattle.build_keys.specs.Keys.{AreItems};
 ghost use Rattle.build_keys.specs.Reading.{Reader, list_at};
@@ -29,10 +29,6 @@ pub trait Item: Drop {
     fn push_to(&self, out: &mut Vec<u8>) -> Result<(), NoMemory>
         ensures { OnOk result (out.new.items ≡ out.old.items ++ spelled self.now) };
 
-    /// Whether the two are equal. It takes no memory.
-    fn equals(&self, other: &Self) -> bool
-        ensures { IsTrue result ↔ (self.now ≡ other.now) };
-
     /// The length of the spelling, or 16,777,217 for every greater one. It takes no memory.
     fn spelled_len(&self) -> u64
         ensures { result ≡ capped (length (spelled self.now)) };
@@ -57,21 +53,6 @@ pub fn push_items<T: Item>(out: &mut Vec<u8>, items: &List<T>) -> Result<(), NoM
         item.push_to(out)?;
     }
     Ok(())
-}
-
-/// Whether there are as many things as others, each equal to the other in its place. It takes no memory.
-pub fn same_items<T: Item>(items: &List<T>, others: &List<T>) -> bool
-    ensures { IsTrue result ↔ (items.now ≡ others.now) }
-{
-    if items.len() != others.len() {
-        return false;
-    }
-    for (place, item) in items.as_slice().iter().enumerate() {
-        if !item.equals(&others.as_slice()[place]) {
-            return false;
-        }
-    }
-    true
 }
 
 /// Things have a spelling where that is short enough. They are walked over, and nothing is done.

@@ -1,7 +1,6 @@
 //! What a key has when it is done.
 ghost use Rattle.std.specs.Prelude.{◌≡◌, ◌↔◌, IsTrue};
 
-use crate::item::same_items;
 use file_info::copied::Copied;
 use file_info::info::Info;
 use file_info::list::List;
@@ -57,8 +56,8 @@ impl Same for Value {
             (Value::Virtual, Value::Virtual) => true,
             (Value::File(info), Value::File(other)) => info.same(other),
             (Value::Names(names), Value::Names(others)) => names.same(others),
-            (Value::Tree(entries), Value::Tree(others)) => same_items(entries, others),
-            (Value::Structure(entries), Value::Structure(others)) => same_items(entries, others),
+            (Value::Tree(entries), Value::Tree(others)) => entries.same(others),
+            (Value::Structure(entries), Value::Structure(others)) => entries.same(others),
             (Value::Done(infos), Value::Done(others)) => infos.same(others),
             (Value::Expected(paths), Value::Expected(others)) => paths.same(others),
             (Value::Targets, Value::Targets) => true,

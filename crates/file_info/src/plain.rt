@@ -4,16 +4,13 @@ ghost use Rattle.std.specs.List.{list_any};
 ghost use Rattle.file_info.specs.Path.{is_skipped, is_up, parts_of};
 ghost use Rattle.file_info.specs.Normal.{IsNormal};
 
+use crate::dots::{is_here, is_parent};
+
 // Whether the part is empty, `.` or `..`.
 fn is_special(part: &[u8]) -> bool
     ensures { result ≡ (is_skipped part.now || is_up part.now) }
 {
-    match part {
-        [] => true,
-        [byte] => *byte == b'.',
-        [first, second] => *first == b'.' && *second == b'.',
-        _ => false,
-    }
+    is_here(part) || is_parent(part)
 }
 
 // Whether a part between the slashes is empty, `.` or `..`.

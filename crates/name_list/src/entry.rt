@@ -1,27 +1,13 @@
 //! What can name an entry of a directory.
 ghost use Rattle.std.specs.Prelude.{◌≡◌, ◌==◌, ◌||◌, ◌&&◌, not, false, length, nat_le};
 ghost use Rattle.std.specs.List.{list_any};
-ghost use Rattle.file_info.specs.Path.{is_skipped, is_up};
 ghost use Rattle.name_list.specs.EntryNames.{ends_name, is_plain_name, is_entry_name};
 
 use crate::text::utf8_text;
+use file_info::dots::{is_here, is_parent};
 
 /// The most bytes that the name of an entry has.
 pub const ENTRY_NAME_MAX: usize = 4096;
-
-// Whether the text is empty or `.`.
-fn is_here(text: &str) -> bool
-    ensures { result ≡ is_skipped text.now }
-{
-    text.is_empty() || text == "."
-}
-
-// Whether the text is `..`.
-fn is_parent(text: &str) -> bool
-    ensures { result ≡ is_up text.now }
-{
-    text == ".."
-}
 
 // Whether the text holds a slash or a byte 0.
 fn has_slash_or_nul(text: &str) -> bool
@@ -36,10 +22,10 @@ fn has_slash_or_nul(text: &str) -> bool
 fn is_plain(text: &str) -> bool
     ensures { result ≡ is_plain_name text.now }
 {
-    if is_here(text) {
+    if is_here(text.as_bytes()) {
         return false;
     }
-    if is_parent(text) {
+    if is_parent(text.as_bytes()) {
         return false;
     }
     if text.len() > ENTRY_NAME_MAX {
