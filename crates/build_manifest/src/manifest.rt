@@ -1,6 +1,7 @@
 //! A manifest, with one look for each question.
 ghost use Rattle.std.specs.Prelude.{◌≡◌, ◌↔◌, ◌⊎◌, ◌<◌, IsSome, IfSome, IfOk, IfErr, Ok, Err, length, slice_get};
 ghost use Rattle.std.specs.Option.{option_copied};
+ghost use Rattle.build_manifest.specs.Command.{IsCommand};
 ghost use Rattle.build_manifest.specs.Manifest.{AreParts, IsManifest, default_of};
 ghost use Rattle.build_manifest.specs.Places.{command_place, deps_place, maker_of, target_named};
 ghost use Rattle.build_manifest.specs.Rules as spec;
@@ -83,10 +84,11 @@ impl Manifest {
         self.drafts.len()
     }
 
-    /// The command at a place, counted from 0. None exactly past the last.
+    /// The command at a place, counted from 0. None exactly past the last. It keeps what every command of a manifest keeps.
     pub fn command(&self, place: usize) -> Option<&Command>
         ensures value { option_copied result ≡ slice_get self.now.commands place }
         ensures within { IsSome result ↔ (place < length self.now.commands) }
+        ensures keeps { IfSome result (λ command. IsCommand command.now) }
     {
         let draft = self.drafts.get(place)?;
         Some(&draft.command)
