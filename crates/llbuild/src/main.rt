@@ -53,4 +53,6 @@ fn main(rt: HostRuntime) -> io::Result<ExitCode> {
 }
 
 #[cfg(test)]
+mod orders;
+#[cfg(test)]
 mod tests;

@@ -193,7 +193,7 @@ lawful_done does m at c ticket reads order infos is stood did =
     ap (contents_of m order.outputs) stood ∙ contents_at_paths m at order.outputs ∙ ap (map (λ (p : List ℕ). content m p (at p Follow))) is.outputs_are in
     subst (λ (o : List Content). does order.signature (read_contents m order.reads) [] o) (sym outs)
     (subst (λ (rs : List Read). does order.signature (read_contents m rs) [] (contents_made m at c)) (sym is.reads_are)
-    (subst (λ (s : List ℕ). does s (read_contents m reads) [] (contents_made m at c)) (sym is.is.signature) did))
+    (subst (λ (s : List ℕ). does s (read_contents m reads) [] (contents_made m at c)) (sym is.is.formed.signature) did))
 
 -- journals that differ in their starts alone know the same
 pub stands_same : (w : DiskView) (a b : Journal) → b.stats ≡ a.stats → b.heard ≡ a.heard → SeenStands w a → SeenStands w b

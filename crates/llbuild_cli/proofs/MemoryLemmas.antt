@@ -11,12 +11,12 @@ use Rattle.outside.specs.declared.order.Order.{Order}
 use Rattle.outside.specs.declared.world.NoFault.{NoFault}
 use Rattle.outside.specs.FileRead.{bytes_of}
 use Rattle.outside.specs.View.{DiskView, SinkView, Grew}
-use Rattle.memory_world.specs.declared.write.Write.{Write}
-use Rattle.memory_world.specs.Log.{last_of, info_of, content_of, standing, Tells}
-use Rattle.memory_world.specs.Memory.{Memory, map_of, view_of}
+use Rattle.memory_files.specs.declared.write.Write.{Write}
+use Rattle.memory_files.specs.Log.{last_of, info_of, content_of, standing, map_of, Tells}
+use Rattle.memory_world.specs.Memory.{Memory, view_of}
 use Rattle.memory_world.specs.Sinks.{Written}
 use Rattle.memory_world.specs.Toy.{ToyDoes, toy-function}
-use Rattle.memory_world.proofs.LogLemmas.{standing-told, last-in}
+use Rattle.memory_files.proofs.LogLemmas.{standing-told, last-in}
 use Rattle.build_manifest.specs.declared.command.Command.{Command}
 use Rattle.build_manifest.specs.declared.command.Input.{Input}
 use Rattle.build_meaning.specs.Fresh.{Does, Sights, IsMade, Fresh, source, made}

@@ -24,7 +24,7 @@ use Rattle.outside.specs.declared.order.EnvText.{EnvText}
 use Rattle.outside.specs.declared.order.Order.{Order}
 use Rattle.outside.specs.declared.order.Act.{Act}
 use Rattle.outside.specs.declared.order.Act.TheVariants.{Spawn}
-use Rattle.outside.specs.OrderForm.{IsReadOf, AreReadsOf, IsActOf, IsFormed, deps_of, paths_of}
+use Rattle.outside.specs.OrderForm.{IsReadOf, AreReadsOf, IsToolAct, IsActOf, IsFormed, archive_words, deps_of, paths_of}
 use Rattle.outside.specs.Meaning.{NodeKey}
 use Rattle.outside.specs.Outcome.{IsWritten, StandsAs, Unchanged, IsFound, found_contents, contents_at, output_form, form_of}
 use Rattle.build_meaning.specs.Commands.{key_in, key_of, meaning_of, program_of, shell_of, tool_in, variable_of}
@@ -60,17 +60,19 @@ program_deps Absent env inherit deps = refl
 program_deps (Words words) env inherit deps = refl
 program_deps (Line line) env inherit deps = refl
 
-program_spawns : (args : Args) (env : List EnvText) (inherit : Bool) (deps : List (List ℕ)) (act : Act)
-    → IsActOf (program_of args env inherit deps) act → act ≡ Spawn (words_of args) env inherit false
-program_spawns Absent env inherit deps act is = is
-program_spawns (Words words) env inherit deps act is = is
-program_spawns (Line line) env inherit deps act is = is
+program_spawns : (archive : List (List ℕ)) (args : Args) (env : List EnvText) (inherit : Bool) (deps : List (List ℕ)) (act : Act)
+    → IsToolAct archive (program_of args env inherit deps) act → act ≡ Spawn (words_of args) env inherit false
+program_spawns archive Absent env inherit deps act is = is
+program_spawns archive (Words words) env inherit deps act is = is
+program_spawns archive (Line line) env inherit deps act is = is
 
 pub no_deps : (c : Command) → IsPlain c → deps_of (meaning_of c).tool ≡ []
 no_deps c plain = ap deps_of (tool_is c plain) ∙ program_deps c.args [] true []
 
-spawns : (c : Command) (act : Act) → IsPlain c → IsActOf (meaning_of c).tool act → act ≡ Spawn (words_of c.args) [] true false
-spawns c act plain is = program_spawns c.args [] true [] act (subst (λ t. IsActOf t act) (tool_is c plain) is)
+spawns : (c : Command) (act : Act) → IsPlain c → IsActOf (meaning_of c) act → act ≡ Spawn (words_of c.args) [] true false
+spawns c act plain is =
+    let archive = archive_words (meaning_of c) in
+    program_spawns archive c.args [] true [] act (subst (λ t. IsToolAct archive t act) (tool_is c plain) is)
 
 followed : (order : Order) (p : List ℕ) (words : List (List ℕ)) → order.act ≡ Spawn words [] true false → order.links ≡ [] → output_form order p ≡ Follow
 followed order p words act links = rw (act, links) refl
@@ -82,15 +84,15 @@ pub did_step : (does : Does) (m : List FileVersion) (after : List ℕ → Form �
     → does order.signature (read_contents m order.reads) (found_contents m after order w) (contents_at m after order))
     → Unchanged after order → DidLaw does m after c reads
 did_step does m after c ticket reads order plain is law unchanged =
-    let deps : order.deps ≡ [] = is.is.deps ∙ no_deps c plain in
+    let deps : order.deps ≡ [] = is.is.formed.deps ∙ no_deps c plain in
     let found : IsFound m after order.deps [] = subst (λ (d : List (List ℕ)). IsFound m after d []) (sym deps) refl in
-    let did = law (record { meaning = meaning_of c; is = is.is }) unchanged [] found in
-    let form = λ (p : List ℕ). followed order p (words_of c.args) (spawns c order.act plain is.is.act) is.is.links in
+    let did = law (record { meaning = meaning_of c; is = is.is.formed }) unchanged [] found in
+    let form = λ (p : List ℕ). followed order p (words_of c.args) (spawns c order.act plain is.is.formed.act) is.is.links in
     let outs : contents_at m after order ≡ contents_made m after c =
     map-same (λ (p : List ℕ). content m p (after p (output_form order p))) (λ (p : List ℕ). content m p (after p Follow)) order.outputs
     (λ p i. ap (λ (f : Form). content m p (after p f)) (form p))
     ∙ ap (map (λ (p : List ℕ). content m p (after p Follow))) is.outputs_are in
-    subst (λ (s : List ℕ). does s (read_contents m reads) [] (contents_made m after c)) is.is.signature
+    subst (λ (s : List ℕ). does s (read_contents m reads) [] (contents_made m after c)) is.is.formed.signature
     (subst (λ (rs : List Read). does order.signature (read_contents m rs) [] (contents_made m after c)) is.reads_are
     (subst (λ (o : List Content). does order.signature (read_contents m order.reads) [] o) outs did))
 

@@ -3,11 +3,9 @@ use Rattle.std.specs.Prelude.{◌≡◌, ◌⊎◌, ◌+◌, ℕ, List, [], ◌�
 use Rattle.file_info.specs.Lists.{In}
 use Rattle.file_info.specs.declared.info.Info.{Info}
 use Rattle.outside.specs.View.{Rose, Grew, SinkView}
-use Rattle.outside.specs.OrderForm.{IsOrderOf}
 use Rattle.outside.specs.declared.order.Exit.{Exit}
 use Rattle.build_manifest.specs.declared.command.Command.{Command}
 use Rattle.build_manifest.specs.declared.command.TargetEntry.{TargetEntry}
-use Rattle.build_meaning.specs.Commands.{meaning_of}
 use Rattle.build_report.specs.declared.report.Heard.{Heard}
 use Rattle.build_report.specs.declared.report.Outcome.TheVariants.{Failed}
 use Rattle.build_report.specs.declared.report.Start.{Start}
@@ -20,6 +18,7 @@ use Rattle.llbuild_cli.specs.Input.{IsFirstMissing}
 use Rattle.llbuild_cli.specs.Start.{start_of}
 use Rattle.build_report.specs.Text.{line_of}
 use Rattle.llbuild_cli.specs.Growth.{GrewByPart}
+use Rattle.llbuild_cli.specs.OwnOrder.{IsOwnOrder}
 
 -- the command was not started, and nothing was written
 pub record NotAnnounced (old new : SinkView) (before after : List Start) : Type 0 where
@@ -49,7 +48,7 @@ pub record HeardOne (c : Command) (before after : List Heard) : Type 0 where
   pub heard : Heard
   pub more : after ≡ before ++ heard ∷ []
   pub name : heard.order.command ≡ c.name
-  pub is : IsOrderOf (meaning_of c) heard.order
+  pub is : IsOwnOrder c heard.order
   pub ticket : heard.order.ticket ≡ length before + 1
 
 -- one more order ended, that of the command, and it succeeded

@@ -8,7 +8,7 @@ use Rattle.file_info.specs.declared.info.Form.TheVariants.{Follow}
 use Rattle.file_info.specs.declared.node.NodeName.TheVariants.{Path}
 use Rattle.file_info.specs.declared.node.Read.{Read}
 use Rattle.file_info.specs.declared.node.Reading.TheVariants.{File}
-use Rattle.outside.specs.OrderForm.{paths_of, IsOrderOf}
+use Rattle.outside.specs.OrderForm.{paths_of}
 use Rattle.outside.specs.Meaning.{signature_of}
 use Rattle.outside.specs.Outcome.{Unchanged}
 use Rattle.outside.specs.View.{DiskView, Told, Tells, Keeps}
@@ -26,6 +26,7 @@ use Rattle.llbuild_cli.specs.Journal.{Journal, Knows}
 use Rattle.llbuild_cli.specs.Look.{Looked}
 use Rattle.llbuild_cli.specs.Sight.{GivesInfo}
 use Rattle.llbuild_cli.specs.Input.{AreRead}
+use Rattle.llbuild_cli.specs.OwnOrder.{IsOwnOrder}
 
 -- the path is that of one of these inputs
 abbrev pub IsInput : List Input → List ℕ → Type 0
@@ -61,7 +62,7 @@ DidLaw does m at c reads = does (signature_of (meaning_of c)) (read_contents m r
 -- the order of the command, with this ticket and on what was read
 pub record IsOrderFor (c : Command) (ticket : ℕ) (reads : List Read) (order : Order) : Type 0 where
   pub name : order.command ≡ c.name
-  pub is : IsOrderOf (meaning_of c) order
+  pub is : IsOwnOrder c order
   pub ticket_is : order.ticket ≡ ticket
   pub reads_are : order.reads ≡ reads
   pub outputs_are : order.outputs ≡ paths_of c.outputs

@@ -6,9 +6,8 @@ use Rattle.file_info.specs.declared.info.Form.TheVariants.{Follow}
 use Rattle.outside.specs.FileRead.{bytes_of}
 use Rattle.outside.specs.declared.disk.FileBytes.TheVariants.{Bytes}
 use Rattle.outside.specs.View.{SinkView}
-use Rattle.memory_world.specs.declared.write.Write.{Write}
-use Rattle.memory_world.specs.Log.{standing, last_of, info_of}
-use Rattle.memory_world.specs.Memory.{map_of}
+use Rattle.memory_files.specs.declared.write.Write.{Write}
+use Rattle.memory_files.specs.Log.{standing, last_of, info_of, map_of}
 use Rattle.memory_world.specs.Sinks.{Written}
 use Rattle.memory_world.specs.Toy.{ToyDoes}
 use Rattle.build_manifest.specs.declared.command.Input.{Input}

@@ -1,3 +1,4 @@
+pub mod OwnOrder
 pub mod Sight
 pub mod Journal
 pub mod Index

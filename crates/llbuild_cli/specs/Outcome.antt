@@ -3,19 +3,18 @@ use Rattle.std.specs.Prelude.{◌≡◌, ◌≤◌, ◌+◌, ◌++◌, ℕ, List
 use Rattle.file_info.specs.Content.{Content, FileVersion, content, read_contents}
 use Rattle.file_info.specs.Lists.{In}
 use Rattle.file_info.specs.declared.info.Info.{Info}
-use Rattle.outside.specs.OrderForm.{IsOrderOf}
 use Rattle.outside.specs.Outcome.{Unchanged}
 use Rattle.outside.specs.View.{DiskView, Told, Tells, Keeps}
 use Rattle.outside.specs.declared.order.Order.{Order}
 use Rattle.outside.specs.declared.order.Exit.{Exit}
 use Rattle.outside.specs.declared.order.Exit.TheVariants.{Code}
 use Rattle.build_manifest.specs.declared.command.Command.{Command}
-use Rattle.build_meaning.specs.Commands.{meaning_of}
 use Rattle.build_meaning.specs.Fresh.{Does}
 use Rattle.build_report.specs.declared.report.Heard.{Heard}
 use Rattle.build_report.specs.declared.report.Outcome.{Outcome}
 use Rattle.build_report.specs.declared.report.Outcome.TheVariants.{Failed, Done}
 use Rattle.build_report.specs.declared.report.Start.{Start}
+use Rattle.llbuild_cli.specs.OwnOrder.{IsOwnOrder}
 
 -- the outcome that an exit gives: a failure with it, exactly where it is not the status 0
 abbrev pub IsOutcomeOf : Exit → Order → Outcome → Type 0
@@ -27,7 +26,7 @@ pub record IsOrderOfOne (commands : List Command) (order : Order) : Type 0 where
   pub command : Command
   pub named : In command commands
   pub name : order.command ≡ command.name
-  pub is : IsOrderOf (meaning_of command) order
+  pub is : IsOwnOrder command order
 
 -- the world answered an exit for the order, at a moment of the run at which all that the order read stood, and the outcome is
 -- the one that the exit gives

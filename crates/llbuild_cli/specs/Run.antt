@@ -5,14 +5,12 @@ use Rattle.file_info.specs.Lists.{In, IsDistinct}
 use Rattle.file_info.specs.declared.info.Info.{Info}
 use Rattle.file_info.specs.declared.info.Info.TheVariants.{Missing}
 use Rattle.file_info.specs.declared.info.Form.TheVariants.{Follow}
-use Rattle.outside.specs.OrderForm.{IsOrderOf}
 use Rattle.outside.specs.View.{DiskView, SinkView, DiskFailed, SinkFailed, Told, Tells, Grew}
 use Rattle.outside.specs.declared.order.Exit.{Exit}
 use Rattle.outside.specs.declared.order.Order.{Order}
 use Rattle.outside.specs.declared.world.NoFault.{NoFault}
 use Rattle.build_manifest.specs.declared.command.Command.{Command}
 use Rattle.build_manifest.specs.declared.command.Input.{Input}
-use Rattle.build_meaning.specs.Commands.{meaning_of}
 use Rattle.build_meaning.specs.Fresh.{Does, Fresh}
 use Rattle.build_report.specs.declared.report.End.{End}
 use Rattle.build_report.specs.declared.report.End.TheVariants as ends
@@ -34,6 +32,7 @@ use Rattle.llbuild_cli.specs.Sight.{Shows, IsSingle, sights_of}
 use Rattle.llbuild_cli.specs.Source.{AreSources}
 use Rattle.llbuild_cli.specs.Start.{AreStarts, AllStarted, IsNextStart}
 use Rattle.build_report.specs.Text.{lines_of, summary_text}
+use Rattle.llbuild_cli.specs.OwnOrder.{IsOwnOrder}
 
 -- the law of commands, what a world answers of orders, and what its disk answers of files
 pub record Answers : Type 1 where
@@ -82,7 +81,7 @@ pub record IsOrderOfStart (commands : List Command) (starts : List Start) (order
   pub command : Command
   pub named : In command commands
   pub name : order.command ≡ command.name
-  pub is : IsOrderOf (meaning_of command) order
+  pub is : IsOwnOrder command order
 
 -- the orders that ended are those of starts, none is there twice, and at most one start has none
 pub record AreOrdersOf (commands : List Command) (report : Report NoFault) : Type 0 where

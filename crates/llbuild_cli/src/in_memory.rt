@@ -1,7 +1,7 @@
 //! Runs over files in memory.
 ghost use Rattle.std.specs.Prelude.{◌≡◌, [], map, string_bytes, ⊤};
-ghost use Rattle.memory_world.specs.Log.{Tells};
-ghost use Rattle.memory_world.specs.Memory.{map_of, view_of};
+ghost use Rattle.memory_files.specs.Log.{map_of, Tells};
+ghost use Rattle.memory_world.specs.Memory.{view_of};
 ghost use Rattle.memory_world.specs.Exit.{IsToyExit};
 ghost use Rattle.memory_world.specs.Toy.{ToyDoes};
 ghost use Rattle.command_line.specs.Job.{served_job};

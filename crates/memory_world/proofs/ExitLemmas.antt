@@ -11,17 +11,19 @@ use Rattle.file_info.specs.declared.node.Reading.{Reading}
 use Rattle.file_info.specs.declared.node.Reading.TheVariants as readings
 use Rattle.file_info.specs.declared.node.Read.{Read}
 use Rattle.outside.specs.declared.order.Order.{Order}
+use Rattle.outside.specs.declared.order.Act.{Act}
+use Rattle.outside.specs.declared.order.Act.TheVariants.{Spawn, MakeDir, MakeLink}
 use Rattle.outside.specs.declared.order.Exit.{Exit}
 use Rattle.outside.specs.declared.order.Exit.TheVariants.{Code}
 use Rattle.outside.specs.Outcome.{form_of}
-use Rattle.memory_world.specs.declared.write.Write.{Write}
-use Rattle.memory_world.specs.Log.{info_at, standing, Tells}
+use Rattle.memory_files.specs.declared.write.Write.{Write}
+use Rattle.memory_files.specs.Log.{info_at, is_directory, standing, Tells}
 use Rattle.memory_world.specs.Memory.{Memory, view_of}
 use Rattle.memory_world.specs.Toy.{content_fails, has_fail, reading_fails}
-use Rattle.memory_world.specs.Performance.{reading_at, is_read, is_directory, is_blocked, has_failing, is_served, exit_of}
-use Rattle.memory_world.specs.Exit.{exit_on, IsToyExit, HasBlocked, HasFailing}
+use Rattle.memory_world.specs.Performance.{reading_at, is_read, is_file_or_link, is_blocked, has_failing, fails_on, is_served, exit_of}
+use Rattle.memory_world.specs.Exit.{exit_on, IsToyExit, IsBlocked, HasBlocked, IsProgram, HasFailing}
 use Rattle.file_info.proofs.Lists.{any-some}
-use Rattle.memory_world.proofs.LogLemmas.{standing-told}
+use Rattle.memory_files.proofs.LogLemmas.{standing-told}
 
 reading-same : (h k : List ℕ → Form → Content) → ((p : List ℕ) (f : Form) → h p f ≡ k p f) → (links : List (List ℕ)) (path : List ℕ) (reading : Reading)
     → reading_fails (reading_at h links path reading) ≡ reading_fails (reading_at k links path reading)
@@ -39,7 +41,7 @@ failing-same h k e links (r ∷ reads) = rw (reading-same h k e links (node_text
 -- where a map tells all writes, the exit on what is seen is the exit on the writes
 pub exit-told : (ws : List Write) (m : List FileVersion) (order : Order) → Tells ws m → exit_on m (info_at ws) order ≡ exit_of ws order
 exit-told ws m order t =
-    ap (λ (b : Bool). if is_served order && not (list_any (is_blocked (info_at ws) order.reads) order.outputs) && not b then Code 0 else Code 1)
+    ap (λ (b : Bool). if is_served order && not (list_any (is_blocked (info_at ws) order.reads order.act) order.outputs) && not (fails_on order.act b) then Code 0 else Code 1)
     (failing-same (λ p f. content m p (info_at ws p f)) (standing ws) (standing-told ws m t) order.links order.reads)
 
 -- the exit on the writes is the one that is told
@@ -69,30 +71,48 @@ file-read held links path (readings.File info) e = (info, refl, e)
 file-read held links path (readings.Tree entries) e = cc e
 file-read held links path (readings.Structure entries) e = cc e
 
-blocked-some : (at : List ℕ → Form → Info) (order : Order) → list_any (is_blocked at order.reads) order.outputs ≡ true → HasBlocked at order
-blocked-some at order e =
-    let (p, i, b) = any-some (is_blocked at order.reads) order.outputs e in (
-      p,
-      i,
-      elim (or-either (is_directory (at p Link)) (list_any (λ (r : Read). is_read (node_text r.node) r.reading p) order.reads) b) [
-        | inl d ↦ inl (directory-is (at p Link) d)
-        | inr r ↦ inr (any-some (λ (r : Read). is_read (node_text r.node) r.reading p) order.reads r)
-      ],
-    )
+file-or-link : (i : Info) → is_file_or_link i ≡ true → (i ≡ infos.Missing → ⊥) × (i ≡ infos.Directory → ⊥)
+file-or-link infos.Missing e = cc e
+file-or-link infos.Directory e = cc e
+file-or-link (infos.File size stamp) e = (λ z. cc z, λ z. cc z)
+file-or-link (infos.Link text) e = (λ z. cc z, λ z. cc z)
 
-failing-some : (m : List FileVersion) (at : List ℕ → Form → Info) (order : Order) → has_failing (λ p f. content m p (at p f)) order ≡ true → HasFailing m at order
+blocked-is : (at : List ℕ → Form → Info) (reads : List Read) (act : Act) (p : List ℕ) → is_blocked at reads act p ≡ true → IsBlocked at reads act p
+blocked-is at reads (Spawn words env inherit clear) p b =
+    elim (or-either (is_directory (at p Link)) (list_any (λ (r : Read). is_read (node_text r.node) r.reading p) reads) b) [
+      | inl d ↦ inl (directory-is (at p Link) d)
+      | inr r ↦ inr (any-some (λ (r : Read). is_read (node_text r.node) r.reading p) reads r)
+    ]
+blocked-is at reads MakeDir p b = file-or-link (at p Link) b
+blocked-is at reads (MakeLink text) p b = directory-is (at p Link) b
+
+blocked-some : (at : List ℕ → Form → Info) (order : Order) → list_any (is_blocked at order.reads order.act) order.outputs ≡ true → HasBlocked at order
+blocked-some at order e =
+    let (p, i, b) = any-some (is_blocked at order.reads order.act) order.outputs e in
+    (p, i, blocked-is at order.reads order.act p b)
+
+program-fails : (act : Act) (failing : Bool) → fails_on act failing ≡ true → IsProgram act × (failing ≡ true)
+program-fails (Spawn words env inherit clear) failing e = (tt, e)
+program-fails MakeDir failing e = cc e
+program-fails (MakeLink text) failing e = cc e
+
+failing-some : (m : List FileVersion) (at : List ℕ → Form → Info) (order : Order) → fails_on order.act (has_failing (λ p f. content m p (at p f)) order) ≡ true
+    → HasFailing m at order
 failing-some m at order e =
     let held = λ (p : List ℕ) (f : Form). content m p (at p f) in
-    let (r, i, b) = any-some (λ (r : Read). reading_fails (reading_at held order.links (node_text r.node) r.reading)) order.reads e in
+    let (program, failing) = program-fails order.act (has_failing held order) e in
+    let (r, i, b) = any-some (λ (r : Read). reading_fails (reading_at held order.links (node_text r.node) r.reading)) order.reads failing in
     let (info, is, fails) = file-read held order.links (node_text r.node) r.reading b in
-    (r, i, (info, is, content-text (held (node_text r.node) (form_of order.links (node_text r.node) info)) fails))
+    (program, (r, i, (info, is, content-text (held (node_text r.node) (form_of order.links (node_text r.node) info)) fails)))
 
 -- why an order fails
 pub why-failed : (m : List FileVersion) (at : List ℕ → Form → Info) (order : Order) → (exit_on m at order ≡ Code 0 → ⊥)
     → (exit_on m at order ≡ Code 1) × ((is_served order ≡ false) ⊎ (HasBlocked at order ⊎ HasFailing m at order))
-why-failed m at order failed = go (is_served order) (list_any (is_blocked at order.reads) order.outputs) (has_failing (λ p f. content m p (at p f)) order) refl refl refl
+why-failed m at order failed =
+    go (is_served order) (list_any (is_blocked at order.reads order.act) order.outputs) (fails_on order.act (has_failing (λ p f. content m p (at p f)) order)) refl refl refl
   where
-    go : (a b c : Bool) → is_served order ≡ a → list_any (is_blocked at order.reads) order.outputs ≡ b → has_failing (λ p f. content m p (at p f)) order ≡ c
+    go : (a b c : Bool) → is_served order ≡ a → list_any (is_blocked at order.reads order.act) order.outputs ≡ b
+        → fails_on order.act (has_failing (λ p f. content m p (at p f)) order) ≡ c
         → (exit_on m at order ≡ Code 1) × ((is_served order ≡ false) ⊎ (HasBlocked at order ⊎ HasFailing m at order))
     go false b c d e f = (rw d refl, inl d)
     go true true c d e f = (rw (d, e) refl, inr (inl (blocked-some at order e)))

@@ -1,6 +1,6 @@
 -- A toy command that succeeded did what its law says.
-use Rattle.std.proofs.Common.{◌≡◌, ◌+◌, ℕ, suc, Bool, true, false, List, [], ◌∷◌, map, length, refl, inl, inr, ap, sym, ◌∙◌, subst}
-use Rattle.std.specs.Prelude.{◌||◌, ◌&&◌, not, if◌then◌else◌}
+use Rattle.std.proofs.Common.{◌≡◌, ◌⊎◌, ◌+◌, ℕ, suc, Bool, true, false, List, [], ◌∷◌, map, length, refl, inl, inr, ap, sym, ◌∙◌, subst}
+use Rattle.std.specs.Prelude.{◌||◌, ◌&&◌, not, if◌then◌else◌, codes}
 use Rattle.std.specs.List.{list_any}
 use Rattle.file_info.specs.Content.{Content, FileVersion, content, Text, ReadContent, One, Entries, same_list, node_text, reading_content, read_contents}
 use Rattle.file_info.specs.Lists.{In, IsDistinct}
@@ -16,34 +16,37 @@ use Rattle.outside.specs.declared.order.Order.{Order}
 use Rattle.outside.specs.declared.order.Act.{Act}
 use Rattle.outside.specs.declared.order.Act.TheVariants.{Spawn, MakeDir, MakeLink}
 use Rattle.outside.specs.declared.order.Exit.TheVariants.{Code}
-use Rattle.memory_world.specs.declared.write.What.TheVariants.{Bytes}
-use Rattle.memory_world.specs.declared.write.Write.{Write}
-use Rattle.outside.specs.OrderForm.{IsFormed, paths_of}
-use Rattle.outside.specs.Outcome.{Unchanged, StandsAs, form_of, output_form, contents_at, IsFound, found_contents}
-use Rattle.memory_world.specs.Log.{put, last_of, info_of, info_at as at, content_of, standing, Tells}
-use Rattle.memory_world.specs.Toy.{ToyDoes, message_of, digest_of, digests_from, fails, reading_fails}
-use Rattle.memory_world.specs.Performance.{entry_at, reading_at, read_at, reads_at, is_read, is_directory, is_blocked, has_failing, is_served, succeeds, put_digests, performed, exit_of}
+use Rattle.memory_files.specs.declared.write.What.{What}
+use Rattle.memory_files.specs.declared.write.Write.{Write}
+use Rattle.outside.specs.declared.order.EnvText.{EnvText}
+use Rattle.outside.specs.Meaning.{Meaning}
+use Rattle.outside.specs.Meaning.{ToolMeaning, Phony, ShellWords, ShellLine, ShellSigned, MakesDirectory, MakesLink, Archives, RemovesStale}
+use Rattle.outside.specs.OrderForm.{IsToolAct, IsFormed, archive_words}
+use Rattle.outside.specs.Outcome.{Unchanged, StandsAs, asked_as, form_of, makes_link, output_form, contents_at, IsFound, found_contents}
+use Rattle.memory_files.specs.Log.{put, last_of, info_of, info_at as at, is_directory, content_of, what_content, standing, Tells}
+use Rattle.memory_world.specs.Toy.{ToyDoes, message_of, digest_of, made_of, contents_from, runs_program, fails, reading_fails}
+use Rattle.memory_world.specs.Performance.{entry_at, reading_at, read_at, reads_at, is_read, is_kept, is_blocked, has_failing, fails_on, is_served, succeeds, hashed, made_by, put_outputs, performed, exit_of}
 use Rattle.file_info.proofs.Lists.{any-in, map-same}
-use Rattle.memory_world.proofs.LogLemmas.{same_list-refl, last-put, last-put_apart, standing-told}
-use Rattle.memory_world.proofs.DigestLemmas.{or-false, any-none}
+use Rattle.memory_files.proofs.LogLemmas.{same_list-refl, last-put, last-put_apart, standing-told}
+use Rattle.memory_world.proofs.OutputLemmas.{or-false, any-none}
 
 -- other paths stay as they are
-digests-apart : (ws : List Write) (m : List ℕ) (k : ℕ) (ps : List (List ℕ)) (p : List ℕ) → (In p ps → ⊥) → last_of (put_digests ws m k ps) p ≡ last_of ws p
-digests-apart ws m k [] p h = refl
-digests-apart ws m k (q ∷ ps) p h =
-    digests-apart (put ws q (Bytes (digest_of m k))) m (suc k) ps p (λ i. h (inr i))
-    ∙ last-put_apart ws (record { path = q; number = length ws + 1; what = Bytes (digest_of m k) }) p (λ e. h (inl (sym e)))
+outputs-apart : (ws : List Write) (made : ℕ → What) (k : ℕ) (ps : List (List ℕ)) (p : List ℕ) → (In p ps → ⊥) → last_of (put_outputs ws made k ps) p ≡ last_of ws p
+outputs-apart ws made k [] p h = refl
+outputs-apart ws made k (q ∷ ps) p h =
+    outputs-apart (put ws q (made k)) made (suc k) ps p (λ i. h (inr i))
+    ∙ last-put_apart ws (record { path = q; number = length ws + 1; what = made k }) p (λ e. h (inl (sym e)))
 
--- the outputs hold their digests
-digests-standing : (g : List ℕ → Form) (ws : List Write) (m : List ℕ) (k : ℕ) (ps : List (List ℕ)) → IsDistinct ps
-    → map (λ p. standing (put_digests ws m k ps) p (g p)) ps ≡ digests_from m k (length ps)
-digests-standing g ws m k [] d = refl
-digests-standing g ws m k (p ∷ ps) d =
-    let next = put ws p (Bytes (digest_of m k)) in
-    let last = digests-apart next m (suc k) ps p d.0 ∙ last-put ws (record { path = p; number = length ws + 1; what = Bytes (digest_of m k) }) in
-    let one : standing (put_digests next m (suc k) ps) p (g p) ≡ Text (digest_of m k) = ap (λ o. content_of o (g p)) last in
-    ap (λ (c : Content). c ∷ map (λ q. standing (put_digests next m (suc k) ps) q (g q)) ps) one
-    ∙ ap (λ (cs : List Content). Text (digest_of m k) ∷ cs) (digests-standing g next m (suc k) ps d.1)
+-- the outputs hold what was made of them
+outputs-standing : (g : List ℕ → Form) (made : ℕ → What) (held : ℕ → Content) → ((p : List ℕ) (n : ℕ) → what_content (made n) (g p) ≡ held n)
+    → (ws : List Write) (k : ℕ) (ps : List (List ℕ)) → IsDistinct ps → map (λ p. standing (put_outputs ws made k ps) p (g p)) ps ≡ contents_from held k (length ps)
+outputs-standing g made held same ws k [] d = refl
+outputs-standing g made held same ws k (p ∷ ps) d =
+    let next = put ws p (made k) in
+    let last = outputs-apart next made (suc k) ps p d.0 ∙ last-put ws (record { path = p; number = length ws + 1; what = made k }) in
+    let one : standing (put_outputs next made (suc k) ps) p (g p) ≡ held k = ap (λ o. content_of o (g p)) last ∙ same p k in
+    ap (λ (c : Content). c ∷ map (λ q. standing (put_outputs next made (suc k) ps) q (g q)) ps) one
+    ∙ ap (λ (cs : List Content). held k ∷ cs) (outputs-standing g made held same next (suc k) ps d.1)
 
 and-true : (a b : Bool) → (a && b) ≡ true → (a ≡ true) × (b ≡ true)
 and-true true b e = (refl, e)
@@ -56,15 +59,16 @@ not-true false e = refl
 -- why an order succeeded
 record Succeeded (ws : List Write) (order : Order) : Type 0 where
   served : is_served order ≡ true
-  free : list_any (is_blocked (at ws) order.reads) order.outputs ≡ false
-  well : has_failing (standing ws) order ≡ false
+  free : list_any (is_blocked (at ws) order.reads order.act) order.outputs ≡ false
+  well : fails_on order.act (has_failing (standing ws) order) ≡ false
 
 succeeded : (ws : List Write) (order : Order) → succeeds ws order ≡ true → Succeeded ws order
 succeeded ws order e =
-    let blocked = list_any (is_blocked (at ws) order.reads) order.outputs in
-    let outer = and-true (is_served order && not blocked) (not (has_failing (standing ws) order)) e in
+    let blocked = list_any (is_blocked (at ws) order.reads order.act) order.outputs in
+    let failing = fails_on order.act (has_failing (standing ws) order) in
+    let outer = and-true (is_served order && not blocked) (not failing) e in
     let inner = and-true (is_served order) (not blocked) outer.0 in
-    record { served = inner.0; free = not-true blocked inner.1; well = not-true (has_failing (standing ws) order) outer.1 }
+    record { served = inner.0; free = not-true blocked inner.1; well = not-true failing outer.1 }
 
 code-zero : (ws : List Write) (order : Order) → exit_of ws order ≡ Code 0 → succeeds ws order ≡ true
 code-zero ws order e = go (succeeds ws order) e
@@ -74,20 +78,20 @@ code-zero ws order e = go (succeeds ws order) e
     go false h = cc h
 
 no-deps : (order : Order) → is_served order ≡ true → order.deps ≡ []
-no-deps order e = go order.act order.deps (e)
+no-deps order e = go order.deps e
   where
-    go : (act : Act) (deps : List (List ℕ)) → is_served (record order { act = act; deps = deps }) ≡ true → deps ≡ []
-    go (Spawn words env inherit clear) [] h = refl
-    go (Spawn words env inherit clear) (dep ∷ deps) h = cc h
-    go MakeDir deps h = cc h
-    go (MakeLink text) deps h = cc h
+    go : (deps : List (List ℕ)) → is_served (record order { deps = deps }) ≡ true → deps ≡ []
+    go [] h = refl
+    go (dep ∷ deps) h = cc h
 
--- what was read at a path is no output
-not-output : (ws : List Write) (order : Order) → Succeeded ws order → (r : Read) → In r order.reads → (p : List ℕ)
-    → is_read (node_text r.node) r.reading p ≡ true → In p order.outputs → ⊥
-not-output ws order s r i p e o =
-    let blocked = any-none (is_blocked (at ws) order.reads) order.outputs s.free p o in
-    let unread = any-none (λ (z : Read). is_read (node_text z.node) z.reading p) order.reads (or-false (is_directory (info_of (last_of ws p) Link)) _ blocked).1 r i in
+-- no output of a program was read
+not-output : (ws : List Write) (order : Order) (words : List (List ℕ)) (env : List EnvText) (inherit clear : Bool) → order.act ≡ Spawn words env inherit clear
+    → Succeeded ws order → (r : Read) → In r order.reads → (p : List ℕ) → is_read (node_text r.node) r.reading p ≡ true → In p order.outputs → ⊥
+not-output ws order words env inherit clear act s r i p e o =
+    let free : list_any (is_blocked (at ws) order.reads (Spawn words env inherit clear)) order.outputs ≡ false
+    = subst (λ (a : Act). list_any (is_blocked (at ws) order.reads a) order.outputs ≡ false) act s.free in
+    let kept : is_kept (at ws) order.reads p ≡ false = any-none (is_blocked (at ws) order.reads (Spawn words env inherit clear)) order.outputs free p o in
+    let unread = any-none (λ (z : Read). is_read (node_text z.node) z.reading p) order.reads (or-false (is_directory (info_of (last_of ws p) Link)) _ kept).1 r i in
     cc (e, unread)
 
 or-right : (a b : Bool) → b ≡ true → (a || b) ≡ true
@@ -118,35 +122,109 @@ any-map ws links (r ∷ reads) = ap (λ (b : Bool). reading_fails (reading_at (s
 nothing-found : (m : List FileVersion) (at : List ℕ → Form → Info) (order : Order) (found : List (List ℕ)) → order.deps ≡ [] → IsFound m at order.deps found → found ≡ []
 nothing-found m at order found e f = subst (λ (deps : List (List ℕ)). IsFound m at deps found) e f
 
+-- the tool runs a program, and so does the act: each output is a digest
+record Program (tool : ToolMeaning) (act : Act) : Type 0 where
+  words : List (List ℕ)
+  env : List EnvText
+  inherit : Bool
+  clear : Bool
+  act_is : act ≡ Spawn words env inherit clear
+  digests : (hashed : List ℕ) (n : ℕ) → made_of tool hashed n ≡ Text (digest_of hashed n)
+
+-- the tool makes a directory or a link, whatever is read
+record Other (tool : ToolMeaning) (act : Act) : Type 0 where
+  quiet : runs_program tool ≡ false
+  made : (links : List (List ℕ)) (message hashed : List ℕ) (p : List ℕ) (n : ℕ) → what_content (made_by act hashed n) (asked_as links (makes_link act) p) ≡ made_of tool message n
+
+acts : (archive : List (List ℕ)) (tool : ToolMeaning) (act : Act) → IsToolAct archive tool act → Program tool act ⊎ Other tool act
+acts archive Phony act is = absurd is
+acts archive (ShellWords words env inherit deps) act is = inl (record { words = words; env = env; inherit = inherit; clear = false; act_is = is; digests = λ m n. refl })
+acts archive (ShellLine line env inherit deps) act is =
+    inl (record { words = codes "/bin/sh" ∷ codes "-c" ∷ line ∷ []; env = env; inherit = inherit; clear = false; act_is = is; digests = λ m n. refl })
+acts archive (ShellSigned signature inherit deps) act (words, (env, is)) =
+    inl (record { words = words; env = env; inherit = inherit; clear = false; act_is = is; digests = λ m n. refl })
+acts archive MakesDirectory act is =
+    inr (subst (Other MakesDirectory) (sym is) (record { quiet = refl; made = λ links message hashed p n. refl }))
+acts archive (MakesLink contents) act is =
+    inr (subst (Other (MakesLink contents)) (sym is) (record { quiet = refl; made = λ links message hashed p n. refl }))
+acts archive Archives act is = inl (record { words = archive; env = []; inherit = true; clear = true; act_is = is; digests = λ m n. refl })
+acts archive (RemovesStale expected roots) act is = absurd is
+
+-- what holds of an order that succeeded, and of the files before and after it
+record Case (old : List Write) (order : Order) (m : List FileVersion) (meaning : Meaning) : Type 0 where
+  well : (runs_program meaning.tool && fails (read_contents m order.reads)) ≡ false
+  made : (p : List ℕ) (n : ℕ) → what_content (made_by order.act (hashed old order) n) (output_form order p)
+      ≡ made_of meaning.tool (message_of order.signature (read_contents m order.reads) []) n
+
+program-case : (old : List Write) (order : Order) (m : List FileVersion) (meaning : Meaning) → Tells (performed old order) m → succeeds old order ≡ true
+    → Unchanged (at (performed old order)) order → Program meaning.tool order.act → Case old order m meaning
+program-case old order m meaning t good unchanged p =
+    let s = succeeded old order good in
+    let new = performed old order in
+    let made = made_by order.act (hashed old order) in
+    let is : new ≡ put_outputs old made 0 order.outputs = ap (λ (b : Bool). if b then put_outputs old made 0 order.outputs else old) good in
+    let kept : (q : List ℕ) → (In q order.outputs → ⊥) → last_of new q ≡ last_of old q =
+    λ q h. ap (λ (ws : List Write). last_of ws q) is ∙ outputs-apart old made 0 order.outputs q h in
+    let reads : read_contents m order.reads ≡ reads_at old order =
+    map-same {B = NodeName × ReadContent} (λ (r : Read). (r.node, reading_content m (node_text r.node) r.reading)) (read_at (standing old) order.links) order.reads
+    (λ r i. ap (λ (c : ReadContent). (r.node, c)) (reading-stood old new m order.links (node_text r.node) r.reading t
+    (λ q e. kept q (not-output old order p.words p.env p.inherit p.clear p.act_is s r i q e)) (unchanged r i))) in
+    let none : has_failing (standing old) order ≡ false = subst (λ (a : Act). fails_on a (has_failing (standing old) order) ≡ false) p.act_is s.well in
+    let well : fails (read_contents m order.reads) ≡ false = ap fails reads ∙ any-map old order.links order.reads ∙ none in
+    let message : hashed old order ≡ message_of order.signature (read_contents m order.reads) [] =
+    hashed-is old order p.words p.env p.inherit p.clear p.act_is ∙ ap (λ (d : List (NodeName × ReadContent)). message_of order.signature d []) (sym reads) in
+    record {
+      well = and-right (runs_program meaning.tool) (fails (read_contents m order.reads)) well;
+      made = λ q n.
+          ap (λ (a : Act). what_content (made_by a (hashed old order) n) (output_form order q)) p.act_is
+          ∙ ap (λ (z : List ℕ). Text (digest_of z n)) message ∙ sym (p.digests (message_of order.signature (read_contents m order.reads) []) n);
+    }
+  where
+    hashed-is : (ws : List Write) (o : Order) (words : List (List ℕ)) (env : List EnvText) (inherit clear : Bool) → o.act ≡ Spawn words env inherit clear
+        → hashed ws o ≡ message_of o.signature (reads_at ws o) []
+    hashed-is ws o words env inherit clear e = go o.act e
+      where
+        go : (a : Act) → a ≡ Spawn words env inherit clear → hashed ws (record o { act = a }) ≡ message_of o.signature (reads_at ws o) []
+        go (Spawn v x i k) h = refl
+        go MakeDir h = cc h
+        go (MakeLink text) h = cc h
+
+    and-right : (a b : Bool) → b ≡ false → (a && b) ≡ false
+    and-right true b e = e
+    and-right false b e = refl
+
+other-case : (old : List Write) (order : Order) (m : List FileVersion) (meaning : Meaning) → Other meaning.tool order.act → Case old order m meaning
+other-case old order m meaning o = record {
+  well = ap (λ (b : Bool). b && fails (read_contents m order.reads)) o.quiet;
+  made = λ p n. o.made order.links (message_of order.signature (read_contents m order.reads) []) (hashed old order) p n;
+}
+
 pub toy-does : (old : List Write) (order : Order) (m : List FileVersion) (found : List (List ℕ)) → Tells (performed old order) m → exit_of old order ≡ Code 0 → IsFormed order
     → Unchanged (at (performed old order)) order → IsFound m (at (performed old order)) order.deps found
     → ToyDoes order.signature (read_contents m order.reads) (found_contents m (at (performed old order)) order found) (contents_at m (at (performed old order)) order)
 toy-does old order m found t exit formed unchanged is-found =
     let good = code-zero old order exit in
     let s = succeeded old order good in
-    let message = message_of order.signature (reads_at old order) [] in
     let new = performed old order in
-    let is : new ≡ put_digests old message 0 order.outputs = ap (λ (b : Bool). if b then put_digests old message 0 order.outputs else old) good in
-    let kept : (p : List ℕ) → (In p order.outputs → ⊥) → last_of new p ≡ last_of old p =
-    λ p h. ap (λ (ws : List Write). last_of ws p) is ∙ digests-apart old message 0 order.outputs p h in
-    let reads : read_contents m order.reads ≡ reads_at old order =
-    map-same {B = NodeName × ReadContent} (λ (r : Read). (r.node, reading_content m (node_text r.node) r.reading)) (read_at (standing old) order.links) order.reads
-    (λ r i. ap (λ (c : ReadContent). (r.node, c)) (reading-stood old new m order.links (node_text r.node) r.reading t
-    (λ p e. kept p (not-output old order s r i p e)) (unchanged r i))) in
+    let made = made_by order.act (hashed old order) in
+    let held = made_of formed.meaning.tool (message_of order.signature (read_contents m order.reads) []) in
+    let is : new ≡ put_outputs old made 0 order.outputs = ap (λ (b : Bool). if b then put_outputs old made 0 order.outputs else old) good in
+    let case : Case old order m formed.meaning = elim (acts (archive_words formed.meaning) formed.meaning.tool order.act formed.is.act) [
+      | inl p ↦ program-case old order m formed.meaning t good unchanged p
+      | inr o ↦ other-case old order m formed.meaning o
+    ] in
     let found-none = nothing-found m (at new) order found (no-deps order s.served) is-found in
-    let distinct = formed.is.distinct in
-    let outputs : contents_at m (at new) order ≡ digests_from message 0 (length order.outputs) =
+    let outputs : contents_at m (at new) order ≡ contents_from held 0 (length order.outputs) =
     map-same (λ p. content m p (at new p (output_form order p))) (λ p. standing new p (output_form order p)) order.outputs (λ p i. standing-told new m t p (output_form order p))
     ∙ ap (λ (ws : List Write). map (λ p. standing ws p (output_form order p)) order.outputs) is
-    ∙ digests-standing (output_form order) old message 0 order.outputs distinct in
+    ∙ outputs-standing (output_form order) made held case.made old 0 order.outputs formed.is.distinct in
     record {
       meaning = formed.meaning;
       is = formed.is.signature;
       short = formed.is.short;
       finds = ap (λ (ps : List (List ℕ)). found_contents m (at new) order ps) found-none;
-      well = ap fails reads ∙ any-map old order.links order.reads ∙ s.well;
-      gives = outputs ∙ ap (digests_from message 0) (ap length formed.is.outputs)
-          ∙ ap (λ (d : List (NodeName × ReadContent)). digests_from (message_of order.signature d []) 0 (length (paths_of formed.meaning.outputs))) (sym reads);
+      well = case.well;
+      gives = outputs ∙ ap (λ (ps : List (List ℕ)). contents_from held 0 (length ps)) formed.is.outputs;
     }
 
 -- the same of files that are those after the order

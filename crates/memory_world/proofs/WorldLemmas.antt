@@ -1,5 +1,5 @@
 -- A world whose log went on.
-use Rattle.std.proofs.Common.{◌≡◌, ◌≤◌, ℕ, true, false, List, refl, inl, ap, sym, ◌∙◌, subst}
+use Rattle.std.proofs.Common.{◌≡◌, ◌≤◌, ℕ, true, false, List, refl, inl, inr, ap, sym, ◌∙◌, subst}
 use Rattle.std.specs.Prelude.{Option, Some, None}
 use Rattle.file_info.specs.Content.{FileVersion, content}
 use Rattle.file_info.specs.Lists.{In}
@@ -8,16 +8,22 @@ use Rattle.file_info.specs.declared.info.Form.{Form}
 use Rattle.file_info.specs.declared.info.Form.TheVariants.{Follow, Link}
 use Rattle.outside.specs.declared.disk.FileBytes.{FileBytes}
 use Rattle.outside.specs.declared.order.Order.{Order}
-use Rattle.memory_world.specs.declared.write.What.{What}
-use Rattle.memory_world.specs.declared.write.What.TheVariants.{Gone, Dir, Bytes, LinkText}
-use Rattle.memory_world.specs.declared.write.Write.{Write}
-use Rattle.outside.specs.View.{Keeps, Stayed}
+use Rattle.memory_files.specs.declared.write.What.{What}
+use Rattle.memory_files.specs.declared.write.What.TheVariants.{Gone, Dir, Bytes, LinkText}
+use Rattle.memory_files.specs.declared.write.Write.{Write}
+use Rattle.outside.specs.View.{Keeps, Stayed, next_count}
 use Rattle.outside.specs.FileRead.{bytes_of}
 use Rattle.outside.specs.Outcome.{SameBut, KeepsDirectories}
-use Rattle.memory_world.specs.Log.{later, last_of, info_of, what_info, standing, Tells}
-use Rattle.memory_world.specs.Performance.{is_directory, WentOn}
-use Rattle.memory_world.specs.Memory.{seen_of}
-use Rattle.memory_world.proofs.LogLemmas.{last-split, last-in, last-apart, standing-told, Tells-before}
+use Rattle.memory_files.specs.Log.{later, last_of, info_of, what_info, is_directory, standing, Tells}
+use Rattle.memory_world.specs.Performance.{WentOn}
+use Rattle.memory_world.specs.Memory.{Memory, seen_of, faults_after, after_call, with_left}
+use Rattle.memory_files.proofs.LogLemmas.{last-split, last-in, last-apart, standing-told, Tells-before}
+
+-- the world after an order was performed
+pub left-is : (was : Memory) (new writes : List Write) (left : List Order) (calls faults : ℕ) → new ≡ writes → calls ≡ next_count was.calls
+    → faults ≡ faults_after was.failing calls was.faults
+    → record { writes = new; begun = left; begins = was.begins; failing = was.failing; calls = calls; faults = faults } ≡ with_left (after_call was) writes left
+left-is was new writes left calls faults w c f = rw (w, f, c) refl
 
 -- the same writes tell the same
 pub keeps_writes : {f g b d : ℕ} {o p : List Order} (was ws : List Write) → ws ≡ was → Keeps (seen_of was f o b) (seen_of ws g p d)
@@ -68,9 +74,15 @@ directory-is (Some w) f e = directory-what w.number w.what f e
 pub went-directories : (ps : List (List ℕ)) (old new : List Write) → WentOn ps old new → KeepsDirectories (λ p f. info_of (last_of old p) f) (λ p f. info_of (last_of new p) f)
 went-directories ps old new w p f e = go (last_of w.more p) refl
   where
+    last-is : (o : Option Write) → last_of w.more p ≡ o → info_of (last_of new p) f ≡ info_of (later o (last_of old p)) f
+    last-is o h = ap (λ (ws : List Write). info_of (last_of ws p) f) w.is ∙ ap (λ (z : Option Write). info_of z f) (last-split old w.more p ∙ ap (λ (z : Option Write). later z (last_of old p)) h)
+
     go : (o : Option Write) → last_of w.more p ≡ o → info_of (last_of new p) f ≡ infos.Directory
-    go None h = ap (λ (ws : List Write). info_of (last_of ws p) f) w.is ∙ ap (λ (o : Option Write). info_of o f) (last-split old w.more p ∙ ap (λ (o : Option Write). later o (last_of old p)) h) ∙ e
+    go None h = last-is None h ∙ e
     go (Some v) h =
         let found = last-in w.more p v h in
-        let spared : is_directory (info_of (last_of old p) Link) ≡ false = subst (λ (q : List ℕ). is_directory (info_of (last_of old q) Link) ≡ false) found.1 (w.spared v found.0) in
-        cc (spared, directory-is (last_of old p) f e)
+        elim (w.spared v found.0) [
+          | inl spared ↦ (let here : is_directory (info_of (last_of old p) Link) ≡ false = subst (λ (q : List ℕ). is_directory (info_of (last_of old q) Link) ≡ false) found.1 spared in
+              cc (here, directory-is (last_of old p) f e))
+          | inr made ↦ last-is (Some v) h ∙ ap (λ (x : What). what_info v.number x f) made
+        ]

@@ -1,16 +1,12 @@
--- What is seen of a world in memory, and the map that agrees with its writes.
-use Rattle.std.specs.Prelude.{true, Some, ◌==◌, ℕ, Bool, List, [], ◌∷◌, ◌++◌, length, if◌then◌else◌}
+-- What is seen of a world in memory.
+use Rattle.std.specs.Prelude.{true, Some, ◌==◌, ℕ, Bool, List, [], ◌∷◌, ◌++◌, if◌then◌else◌}
 use Rattle.std.specs.List.{list_any}
-use Rattle.file_info.specs.Content.{FileVersion}
 use Rattle.file_info.specs.declared.info.Info.{Info}
 use Rattle.file_info.specs.declared.info.Form.{Form}
-use Rattle.file_info.specs.declared.info.Info.TheVariants.{File}
 use Rattle.outside.specs.declared.order.Order.{Order}
-use Rattle.memory_world.specs.declared.write.What.{What}
-use Rattle.memory_world.specs.declared.write.What.TheVariants.{Gone, Dir, Bytes, LinkText}
-use Rattle.memory_world.specs.declared.write.Write.{Write}
+use Rattle.memory_files.specs.declared.write.Write.{Write}
 use Rattle.outside.specs.View.{DiskView, Keeps, next_count}
-use Rattle.memory_world.specs.Log.{known_of, last_of, info_of}
+use Rattle.memory_files.specs.Log.{known_of, last_of, info_of}
 
 -- what is seen of a `MemoryWorld`: all writes, the begun orders, how many orders were begun, the numbers of the calls that
 -- fail, how many calls there were, and how many of them failed
@@ -69,15 +65,6 @@ view_of m = seen_of m.writes m.faults m.begun m.begins
 abbrev pub Kept : Memory → Memory → Type 0
 Kept old new = Keeps (view_of old) (view_of new)
 
--- the bytes of a write, which are none where it left no file
-abbrev pub text_of : What → List ℕ
-text_of Gone = []
-text_of Dir = []
-text_of (Bytes text) = text
-text_of (LinkText text) = []
-
--- the map that is made of the writes: each gives its bytes at its own file information. Where the writes are numbered it
--- tells them all: the law `numbered_writes_tell`
-abbrev pub map_of : List Write → List FileVersion
-map_of [] = []
-map_of (w ∷ ws) = record { path = w.path; info = File (length (text_of w.what)) (w.number ∷ 0 ∷ 0 ∷ 0 ∷ []); text = text_of w.what } ∷ map_of ws
+-- the world with these writes
+abbrev pub with_writes : Memory → List Write → Memory
+with_writes m ws = record m { writes = ws }

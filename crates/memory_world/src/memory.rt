@@ -1,5 +1,6 @@
 //! A world in memory, in which toy commands run.
-ghost use Rattle.std.specs.Prelude.{◌≡◌, ◌<◌, ◌↔◌, ◌∷◌, ◌++◌, [], ℕ, length, IfOk, IfErr, OnOk, OnErr, IsErrOf, IsTrue, true, false, Err, List as Items};
+ghost use Rattle.std.specs.Prelude.{◌≡◌, ◌<◌, ◌↔◌, ◌∷◌, ◌++◌, [], ℕ, length, List as Items};
+ghost use Rattle.std.specs.Prelude.{IfOk, IfErr, OnOk, OnErr, IsErrOf, IsTrue, true, false, Err};
 ghost use Rattle.file_info.specs.Content.{FileVersion, content, read_contents};
 ghost use Rattle.file_info.specs.declared.info.Form.{Form};
 ghost use Rattle.file_info.specs.Lists.{In};
@@ -10,22 +11,23 @@ ghost use Rattle.outside.specs.Outcome.{SameBut, KeepsDirectories, TakenOut, Unc
 ghost use Rattle.outside.specs.FileRead.{FitsInfo, bytes_of};
 ghost use Rattle.outside.specs.View.{Stayed, HasCause, next_count};
 ghost use Rattle.memory_world.specs.Performance.{performed, exit_of};
-ghost use Rattle.memory_world.specs.Log.{last_of, info_of, standing, Tells, numbered_from};
-ghost use Rattle.memory_world.specs.Memory.{is_failing, faults_after, after_call, fails_next, with_order, with_left, Kept, stands, view_of, map_of};
+ghost use Rattle.memory_files.specs.Log.{last_of, info_of, standing, Tells, numbered_from, map_of};
+ghost use Rattle.memory_world.specs.Memory.{is_failing, faults_after, after_call, fails_next, with_order, with_left, with_writes};
+ghost use Rattle.memory_world.specs.Memory.{Kept, stands, view_of};
 ghost use Rattle.memory_world.specs.Toy.{ToyDoes};
 ghost use Rattle.memory_world.specs.Exit.{IsToyExit};
-ghost use Rattle.memory_world.specs.Edits.{after_set, after_dir, after_drop, with_writes};
+ghost use Rattle.memory_files.specs.Edits.{after_set, after_dir, after_drop};
 
 use crate::command::perform;
-use crate::edits;
 use crate::failing::{count_up, next_fails};
-use crate::files::Files;
 use crate::toy::ToyLaw;
-use crate::write::Write;
 use file_info::info::{Form, Info};
 use file_info::list::{Bytes, List};
 use file_info::memory::NoMemory;
 use file_info::path::PathName;
+use memory_files::edits;
+use memory_files::files::Files;
+use memory_files::write::Write;
 use outside::disk::{Disk, DiskError, FileBytes};
 use outside::order::{Ended, Order};
 use outside::world::World;
@@ -150,7 +152,7 @@ impl MemoryWorld {
 
 impl Disk<ToyLaw> for MemoryWorld {
     ghost use Rattle.std.specs.Prelude.{⊤};
-    ghost use Rattle.memory_world.specs.Log.{no_link};
+    ghost use Rattle.memory_files.specs.Log.{no_link};
     ghost use Rattle.memory_world.specs.Memory.{view_of};
 
     ghost view = { view_of };

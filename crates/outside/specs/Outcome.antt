@@ -48,10 +48,13 @@ is_link infos.Directory = false
 is_link (infos.File size stamp) = false
 is_link (infos.Link text) = true
 
--- how a path is asked for that had this file information: it is not followed where it stands among the links, or was a link
--- itself
+-- how a path of an order is asked for: as a link where it is known to be one, or stands among the links; or else it is followed
+abbrev pub asked_as : List (List ℕ) → Bool → List ℕ → Form
+asked_as links linked path = if linked || stands_in links path then Link else Follow
+
+-- how a path is asked for that had this file information when it was read
 abbrev pub form_of : List (List ℕ) → List ℕ → Info → Form
-form_of links path info = if is_link info || stands_in links path then Link else Follow
+form_of links path info = asked_as links (is_link info) path
 
 -- the entry of a structure still has its kind
 abbrev pub HasKind : (List ℕ → Form → Info) → ShapeEntry → Type 0
@@ -68,14 +71,19 @@ StandsAs at links path (Structure entries) = (e : ShapeEntry) → In e entries �
 abbrev pub Unchanged : (List ℕ → Form → Info) → Order → Type 0
 Unchanged at order = (r : Read) → In r order.reads → StandsAs at order.links (node_text r.node) r.reading
 
--- how an output is asked for: it is not followed where the order makes a link or it stands among the links
+-- whether the act makes a link
+abbrev pub makes_link : Act → Bool
+makes_link (Spawn words env inherit clear) = false
+makes_link MakeDir = false
+makes_link (MakeLink text) = true
+
+-- how an output is asked for
 abbrev pub output_form : Order → List ℕ → Form
-output_form order path = act_form order.act
-  where
-    act_form : Act → Form
-    act_form (Spawn words env inherit clear) = if stands_in order.links path then Link else Follow
-    act_form MakeDir = if stands_in order.links path then Link else Follow
-    act_form (MakeLink text) = Link
+output_form order path = asked_as order.links (makes_link order.act) path
+
+-- how a path is asked for that a dependency file names
+abbrev pub found_form : Order → List ℕ → Form
+found_form order path = asked_as order.links false path
 
 -- the contents of the outputs, as they stand
 abbrev pub contents_at : List FileVersion → (List ℕ → Form → Info) → Order → List Content
@@ -89,4 +97,4 @@ IsFound m at (dep ∷ deps) found = ⊥
 
 -- the contents of the found paths, as they stand
 abbrev pub found_contents : List FileVersion → (List ℕ → Form → Info) → Order → List (List ℕ) → List (List ℕ × Content)
-found_contents m at order found = map (λ p. (p, content m p (at p (if stands_in order.links p then Link else Follow)))) found
+found_contents m at order found = map (λ p. (p, content m p (at p (found_form order p)))) found

@@ -1,2 +1,4 @@
+pub mod ActLemmas
 pub mod SignatureLemmas
 pub mod LengthLemmas
+pub mod KeyLemmas

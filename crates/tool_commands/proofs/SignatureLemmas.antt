@@ -1,19 +1,26 @@
 -- How a tool is spelled part by part, and what one variable or one node more adds to an order.
 use Rattle.std.proofs.Common.{◌≡◌, ℕ, ◌+◌, ◌<◌, Bool, List, [], ◌∷◌, ◌++◌, map, take, length, get_or, Option, Some, None, refl, sym, ◌∙◌, ap, append_assoc, append-nil}
+use Rattle.std.specs.Prelude.{Result, Ok, Err, OnOk}
 use Rattle.std.proofs.lemmas.List.{take_more, map-append}
 use Rattle.file_info.specs.declared.node.NodeName.{NodeName}
 use Rattle.file_info.specs.declared.node.NodeName.TheVariants.{Path, Virtual}
 use Rattle.spelling.specs.Spelling.{flag_bytes, text_bytes, list_bytes, node_bytes}
-use Rattle.outside.specs.Meaning.{ToolMeaning, group_of, key_bytes, tool_bytes, signature_of}
-use Rattle.outside.specs.OrderForm.{paths_of}
+use Rattle.outside.specs.Meaning.{InputKey, NodeKey, TreeKey, StructureKey, ToolMeaning, group_of, key_bytes, tool_bytes, signature_of}
+use Rattle.outside.specs.OrderForm.{files_of, paths_of}
 use Rattle.outside.specs.declared.order.EnvText.{EnvText}
 use Rattle.build_manifest.specs.declared.command.Args.{Args}
 use Rattle.build_manifest.specs.declared.command.Args.TheVariants.{Absent, Words, Line}
 use Rattle.build_manifest.specs.declared.command.Command.{Command}
 use Rattle.build_manifest.specs.declared.command.EnvPair.{EnvPair}
+use Rattle.build_manifest.specs.declared.command.Input.{Input}
 use Rattle.build_manifest.specs.declared.command.Tool.TheVariants as tools
 use Rattle.build_meaning.specs.Commands.{key_of, variable_of, shell_of, tool_in, meaning_of}
 use Rattle.tool_commands.specs.Program.{definition_bytes}
+
+-- what follows from what holds of a success
+pub on_ok : {A E P Q : Type 0} (r : Result A E) → (P → Q) → OnOk r P → OnOk r Q
+on_ok (Ok x) f p = f p
+on_ok (Err e) f p = tt
 
 -- two texts were pushed
 pub pushed_both : (n t name text before between after : List ℕ) → n ≡ name → t ≡ text → between ≡ before ++ text_bytes n → after ≡ between ++ text_bytes t
@@ -55,6 +62,40 @@ pub virtual_left : (xs : List NodeName) (i : ℕ) (x : NodeName) (n : List ℕ) 
 virtual_left xs i x n before after h e b v a =
     a ∙ b ∙ sym (paths_more xs i x h e ∙ ap (λ z. paths_of (take i xs) ++ paths_of (z ∷ [])) v ∙ append-nil (paths_of (take i xs)))
 
+-- a path was added to words
+pub path_added : (xs : List NodeName) (i : ℕ) (x : NodeName) (p : List ℕ) (base before after : List (List ℕ)) → i < length xs → x ≡ get_or xs i x
+    → before ≡ base ++ paths_of (take i xs) → x ≡ Path p → after ≡ before ++ p ∷ [] → after ≡ base ++ paths_of (take (i + 1) xs)
+path_added xs i x p base before after h e b v a =
+    a ∙ ap (λ z. z ++ p ∷ []) b ∙ append_assoc base (paths_of (take i xs)) (p ∷ [])
+    ∙ ap (λ z. base ++ z) (path_taken xs i x p p (paths_of (take i xs)) (paths_of (take i xs) ++ p ∷ []) h e refl v refl refl)
+
+-- a virtual node was not added
+pub virtual_passed : (xs : List NodeName) (i : ℕ) (x : NodeName) (n : List ℕ) (base before after : List (List ℕ)) → i < length xs → x ≡ get_or xs i x
+    → before ≡ base ++ paths_of (take i xs) → x ≡ Virtual n → after ≡ before → after ≡ base ++ paths_of (take (i + 1) xs)
+virtual_passed xs i x n base before after h e b v a =
+    a ∙ b ∙ ap (λ z. base ++ z) (virtual_left xs i x n (paths_of (take i xs)) (paths_of (take i xs)) h e refl v refl)
+
+files-append : (xs ys : List InputKey) → files_of (xs ++ ys) ≡ files_of xs ++ files_of ys
+files-append [] ys = refl
+files-append (NodeKey (Path p) ∷ xs) ys = ap (λ z. p ∷ z) (files-append xs ys)
+files-append (NodeKey (Virtual n) ∷ xs) ys = files-append xs ys
+files-append (TreeKey p ps ∷ xs) ys = files-append xs ys
+files-append (StructureKey p ps ∷ xs) ys = files-append xs ys
+
+files-more : (xs : List Input) (i : ℕ) (x : Input) → i < length xs → x ≡ get_or xs i x
+    → files_of (map key_of (take (i + 1) xs)) ≡ files_of (map key_of (take i xs)) ++ files_of (key_of x ∷ [])
+files-more xs i x h e =
+    ap (λ z. files_of (map key_of z)) (take_more xs i x h) ∙ ap files_of (map-append key_of (take i xs) (get_or xs i x ∷ []))
+    ∙ files-append (map key_of (take i xs)) (key_of (get_or xs i x) ∷ []) ∙ ap (λ z. files_of (map key_of (take i xs)) ++ files_of (key_of z ∷ [])) (sym e)
+
+-- the path of an input was added to words, if it is a file
+pub file_added : (xs : List Input) (i : ℕ) (x : Input) (got base before after : List (List ℕ)) → i < length xs → x ≡ get_or xs i x
+    → before ≡ base ++ files_of (map key_of (take i xs)) → got ≡ files_of (key_of x ∷ []) → after ≡ before ++ got
+    → after ≡ base ++ files_of (map key_of (take (i + 1) xs))
+file_added xs i x got base before after h e b g a =
+    a ∙ ap (λ z. z ++ got) b ∙ append_assoc base (files_of (map key_of (take i xs))) got ∙ ap (λ z. base ++ (files_of (map key_of (take i xs)) ++ z)) g
+    ∙ ap (λ z. base ++ z) (sym (files-more xs i x h e))
+
 -- what a shell command hands its tool: its definition, whether it has the variables of the build, and its dependency files
 pub tool_spelled : (own : Option (List ℕ)) (args : Args) (env : List EnvPair) (inherit : Bool) (deps : List (List ℕ))
     → tool_bytes (shell_of own args (map variable_of env) inherit deps) ≡ definition_bytes own args env ++ flag_bytes inherit ++ list_bytes text_bytes deps
@@ -63,48 +104,34 @@ tool_spelled None Absent env inherit deps = refl
 tool_spelled None (Words words) env inherit deps = refl
 tool_spelled None (Line line) env inherit deps = refl
 
-shell_group : (own : Option (List ℕ)) (args : Args) (env : List EnvText) (inherit : Bool) (deps : List (List ℕ)) → group_of (shell_of own args env inherit deps) ≡ 1
+pub shell_group : (own : Option (List ℕ)) (args : Args) (env : List EnvText) (inherit : Bool) (deps : List (List ℕ)) → group_of (shell_of own args env inherit deps) ≡ 1
 shell_group (Some signature) args env inherit deps = refl
 shell_group None Absent env inherit deps = refl
 shell_group None (Words words) env inherit deps = refl
 shell_group None (Line line) env inherit deps = refl
 
--- what the tool of a shell command is handed
-abbrev pub shell_meaning : Command → ToolMeaning
-shell_meaning c = shell_of c.signature c.args (map variable_of c.env) c.inherit_env c.deps
-
-is_shell : (c : Command) → c.tool ≡ tools.Shell → (meaning_of c).tool ≡ shell_meaning c
-is_shell c e = ap (λ t. tool_in t c) e
-
--- the parts of a shell command's signature, one after the other
-pub signature_spelled : (c : Command) → c.tool ≡ tools.Shell
-    → signature_of (meaning_of c) ≡ 1 ∷ list_bytes key_bytes (map key_of c.inputs) ++ list_bytes key_bytes (map key_of c.follow) ++ list_bytes node_bytes c.outputs
-    ++ flag_bytes c.allow_missing ++ flag_bytes c.always
-    ++ (definition_bytes c.signature c.args c.env ++ flag_bytes c.inherit_env ++ list_bytes text_bytes c.deps)
+-- the parts of a signature, one after the other
+pub pushed_whole : (c : Command) (none group inputs follow outputs missing always whole : List ℕ) (byte : ℕ) → byte ≡ group_of (tool_in c.tool c)
+    → group ≡ none ++ byte ∷ [] → inputs ≡ group ++ list_bytes key_bytes (map key_of c.inputs) → follow ≡ inputs ++ list_bytes key_bytes (map key_of c.follow)
+    → outputs ≡ follow ++ list_bytes node_bytes c.outputs → missing ≡ outputs ++ flag_bytes c.allow_missing → always ≡ missing ++ flag_bytes c.always
+    → whole ≡ always ++ tool_bytes (tool_in c.tool c) → whole ≡ none ++ signature_of (meaning_of c)
 unfolding signature_of
-signature_spelled c e =
-    let parts : ℕ → List ℕ → List ℕ = λ group tool.
-    group ∷ list_bytes key_bytes (map key_of c.inputs) ++ list_bytes key_bytes (map key_of c.follow) ++ list_bytes node_bytes c.outputs
-    ++ flag_bytes c.allow_missing ++ flag_bytes c.always ++ tool in
-    ap (λ (t : ToolMeaning). parts (group_of t) (tool_bytes t)) (is_shell c e)
-    ∙ ap (λ group. parts group (tool_bytes (shell_meaning c))) (shell_group c.signature c.args (map variable_of c.env) c.inherit_env c.deps)
-    ∙ ap (parts 1) (tool_spelled c.signature c.args c.env c.inherit_env c.deps)
-
--- what stands before the definition was pushed in turn
-pub pushed_front : (none tag inputs follow outputs missing always i f o m a : List ℕ) → none ≡ [] → tag ≡ none ++ 1 ∷ [] → inputs ≡ tag ++ i → follow ≡ inputs ++ f
-    → outputs ≡ follow ++ o → missing ≡ outputs ++ m → always ≡ missing ++ a → always ≡ 1 ∷ i ++ f ++ o ++ m ++ a
-pushed_front none tag inputs follow outputs missing always i f o m a n t p q r s u =
-    u ∙ ap (λ z. z ++ a) (s ∙ ap (λ z. z ++ m) (r ∙ ap (λ z. z ++ o) (q ∙ ap (λ z. z ++ f) (p ∙ ap (λ z. z ++ i) (t ∙ ap (λ z. z ++ 1 ∷ []) n)))))
-
--- so a text to which they were pushed in turn is the signature
-pub pushed_parts : (c : Command) (flags own inherited whole : List ℕ) → c.tool ≡ tools.Shell
-    → flags ≡ 1 ∷ list_bytes key_bytes (map key_of c.inputs) ++ list_bytes key_bytes (map key_of c.follow) ++ list_bytes node_bytes c.outputs
-    ++ flag_bytes c.allow_missing ++ flag_bytes c.always
-    → own ≡ flags ++ definition_bytes c.signature c.args c.env → inherited ≡ own ++ flag_bytes c.inherit_env → whole ≡ inherited ++ list_bytes text_bytes c.deps
-    → whole ≡ signature_of (meaning_of c)
-pushed_parts c flags own inherited whole e f o i w =
-    let d = definition_bytes c.signature c.args c.env in
-    let b = flag_bytes c.inherit_env in
-    let p = list_bytes text_bytes c.deps in
-    w ∙ ap (λ z. z ++ p) (i ∙ ap (λ z. z ++ b) o) ∙ ap (λ z. z ++ p) (append_assoc flags d b) ∙ append_assoc flags (d ++ b) p
-    ∙ ap (λ z. z ++ (d ++ b ++ p)) f ∙ sym (signature_spelled c e)
+pushed_whole c none group inputs follow outputs missing always whole byte b g i f o m a w =
+    let ib = list_bytes key_bytes (map key_of c.inputs) in
+    let fb = list_bytes key_bytes (map key_of c.follow) in
+    let ob = list_bytes node_bytes c.outputs in
+    let mb = flag_bytes c.allow_missing in
+    let ab = flag_bytes c.always in
+    let tb = tool_bytes (tool_in c.tool c) in
+    let one = byte ∷ ib in
+    let two = one ++ fb in
+    let three = two ++ ob in
+    let four = three ++ mb in
+    w ∙ ap (λ z. z ++ tb) (a ∙ ap (λ z. z ++ ab) (m ∙ ap (λ z. z ++ mb) (o ∙ ap (λ z. z ++ ob) (f ∙ ap (λ z. z ++ fb) (i ∙ ap (λ z. z ++ ib) g)))))
+    ∙ ap (λ z. ((((z ++ fb) ++ ob) ++ mb) ++ ab) ++ tb) (append_assoc none (byte ∷ []) ib)
+    ∙ ap (λ z. (((z ++ ob) ++ mb) ++ ab) ++ tb) (append_assoc none one fb)
+    ∙ ap (λ z. ((z ++ mb) ++ ab) ++ tb) (append_assoc none two ob)
+    ∙ ap (λ z. (z ++ ab) ++ tb) (append_assoc none three mb)
+    ∙ ap (λ z. z ++ tb) (append_assoc none four ab)
+    ∙ append_assoc none (four ++ ab) tb
+    ∙ ap (λ z. none ++ (z ∷ ib ++ fb ++ ob ++ mb ++ ab ++ tb)) b

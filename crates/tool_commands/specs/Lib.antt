@@ -1,1 +1,4 @@
 pub mod Program
+pub mod Acts
+pub mod InputKeys
+pub mod Signatures

@@ -1,267 +1,146 @@
-//! The canonical text of a shell command's meaning, and the order that it gives.
-ghost use Rattle.std.specs.Prelude.{◌≡◌, ◌∷◌, [], ◌++◌, length, map, false, IfOk, OnOk};
-ghost use Rattle.file_info.specs.Content.{node_text};
-ghost use Rattle.file_info.specs.Lists.{IsDistinct};
-ghost use Rattle.spelling.specs.Spelling.{text_bytes, list_bytes, node_bytes};
-ghost use Rattle.outside.specs.Meaning.{key_bytes, env_bytes, signature_of};
-ghost use Rattle.outside.specs.OrderForm.{AreReadsOf, IsActOf, IsOrderOf, paths_of};
-ghost use Rattle.build_manifest.specs.declared.command.Tool.TheVariants as tools;
-ghost use Rattle.build_manifest.specs.Command.{IsCommand};
-ghost use Rattle.build_meaning.specs.Commands.{key_of, variable_of, meaning_of};
-ghost use Rattle.tool_commands.specs.Program.{program_bytes, definition_bytes, words_of};
+//! The signatures of commands, targets and nodes.
+ghost use Rattle.std.specs.Prelude.{◌≡◌, ◌++◌, map, IfOk, OnOk};
+ghost use Rattle.std.specs.Option.{option_copied};
+ghost use Rattle.outside.specs.Meaning.{group_of, tool_bytes, signature_of};
+ghost use Rattle.build_meaning.specs.Commands.{tool_in, meaning_of};
+ghost use Rattle.tool_commands.specs.Signatures.{shell_meaning, target_signature, are_alike, is_same, place_among, node_signature};
 
-use build_manifest::command::{Args, Command, EnvPair, Input, InputForm};
-use file_info::copied::Copied;
+use crate::parts::{push_keys, push_nodes, push_paths, push_program};
+use build_manifest::command::{Command, TargetEntry, Tool};
 use file_info::list::{Bytes, List};
 use file_info::memory::NoMemory;
-use file_info::node::{NodeName, Read};
-use file_info::path::PathName;
-use outside::order::{Act, EnvText, Order};
-use spelling::{push_count, push_flag, push_node, push_text};
+use file_info::node::NodeName;
+use spelling::{push_count, push_flag, push_text};
 use std::alloc::Global;
 
-// The byte that begins the text of a shell command.
-const SHELL: u8 = 1;
-
-// The first bytes of the keys of nodes, trees and structures.
-const NODE: u8 = 3;
-
-const TREE: u8 = 5;
-
-const STRUCTURE: u8 = 6;
-
-fn push_texts(out: &mut Vec<u8>, texts: &List<Bytes>) -> Result<(), NoMemory>
-    ensures { OnOk result (out.new.items ≡ out.old.items ++ list_bytes text_bytes texts.now) }
+// The byte that begins the signature of a command, by its tool.
+fn group_byte(command: &Command) -> u8
+    ensures { result ≡ group_of (tool_in command.now.tool command.now) }
 {
-    push_count(out, texts.len())?;
-    for text in texts.as_slice() {
-        push_text(out, text.as_slice())?;
-    }
-    Ok(())
-}
-
-// The text of a node, without what tells paths and virtual names apart.
-fn text_of(node: &NodeName) -> &str
-    ensures { result.now ≡ node_text node.now }
-{
-    match node {
-        NodeName::Path(path) => path.text(),
-        NodeName::Virtual(name) => name.text(),
+    match command.tool {
+        Tool::Phony => 0,
+        Tool::Shell => 1,
+        Tool::Mkdir => 2,
+        Tool::Symlink => 3,
+        Tool::Archive => 4,
+        Tool::StaleFileRemoval => 5,
     }
 }
 
-fn push_listed(
-    out: &mut Vec<u8>,
-    tag: u8,
-    node: &NodeName,
-    patterns: &List<Bytes>,
-) -> Result<(), NoMemory>
-    ensures { OnOk result (out.new.items ≡ out.old.items ++ tag ∷ text_bytes (node_text node.now) ++ list_bytes text_bytes patterns.now) }
+// Adds what a shell command hands its tool.
+fn push_shell(out: &mut Vec<u8>, command: &Command) -> Result<(), NoMemory>
+    ensures { OnOk result (out.new.items ≡ out.old.items ++ tool_bytes (shell_meaning command.now)) }
 {
-    out.push(tag)?;
-    push_text(out, text_of(node).as_bytes())?;
-    push_texts(out, patterns)
+    push_program(out, command)?;
+    push_flag(out, command.inherit_env)?;
+    push_paths(out, &command.deps)
 }
 
-fn push_key(out: &mut Vec<u8>, input: &Input) -> Result<(), NoMemory>
-    ensures { OnOk result (out.new.items ≡ out.old.items ++ key_bytes (key_of input.now)) }
+// Adds what a command hands its tool.
+fn push_tool(out: &mut Vec<u8>, command: &Command) -> Result<(), NoMemory>
+    ensures { OnOk result (out.new.items ≡ out.old.items ++ tool_bytes (tool_in command.now.tool command.now)) }
 {
-    match &input.form {
-        InputForm::File | InputForm::Virtual => {
-            out.push(NODE)?;
-            push_node(out, &input.node)
-        }
-        InputForm::Tree(patterns) => push_listed(out, TREE, &input.node, patterns),
-        InputForm::Structure(patterns) => push_listed(out, STRUCTURE, &input.node, patterns),
-    }
-}
-
-fn push_keys(out: &mut Vec<u8>, inputs: &List<Input>) -> Result<(), NoMemory>
-    ensures { OnOk result (out.new.items ≡ out.old.items ++ list_bytes key_bytes (map key_of inputs.now)) }
-{
-    push_count(out, inputs.len())?;
-    for input in inputs.as_slice() {
-        push_key(out, input)?;
-    }
-    Ok(())
-}
-
-fn push_nodes(out: &mut Vec<u8>, nodes: &List<NodeName>) -> Result<(), NoMemory>
-    ensures { OnOk result (out.new.items ≡ out.old.items ++ list_bytes node_bytes nodes.now) }
-{
-    push_count(out, nodes.len())?;
-    for node in nodes.as_slice() {
-        push_node(out, node)?;
-    }
-    Ok(())
-}
-
-fn push_env(out: &mut Vec<u8>, env: &List<EnvPair>) -> Result<(), NoMemory>
-    ensures { OnOk result (out.new.items ≡ out.old.items ++ list_bytes env_bytes (map variable_of env.now)) }
-{
-    push_count(out, env.len())?;
-    for pair in env.as_slice() {
-        push_text(out, pair.name.as_slice())?;
-        push_text(out, pair.text.as_slice())?;
-    }
-    Ok(())
-}
-
-fn push_paths(out: &mut Vec<u8>, paths: &List<PathName>) -> Result<(), NoMemory>
-    ensures { OnOk result (out.new.items ≡ out.old.items ++ list_bytes text_bytes paths.now) }
-{
-    push_count(out, paths.len())?;
-    for path in paths.as_slice() {
-        push_text(out, path.text().as_bytes())?;
-    }
-    Ok(())
-}
-
-fn push_args(out: &mut Vec<u8>, args: &Args) -> Result<(), NoMemory>
-    ensures { OnOk result (out.new.items ≡ out.old.items ++ program_bytes args.now) }
-{
-    match args {
-        Args::Absent => {
-            out.push(0)?;
-            push_count(out, 0)
-        }
-        Args::Words(words) => {
-            out.push(0)?;
-            push_texts(out, words)
-        }
-        Args::Line(line) => {
-            out.push(1)?;
-            push_count(out, 1)?;
-            push_text(out, line.as_slice())
+    match command.tool {
+        Tool::Phony => Ok(()),
+        Tool::Shell => push_shell(out, command),
+        Tool::Mkdir => Ok(()),
+        Tool::Symlink => push_text(out, command.contents.as_slice()),
+        Tool::Archive => Ok(()),
+        Tool::StaleFileRemoval => {
+            push_paths(out, &command.expected)?;
+            push_paths(out, &command.roots)
         }
     }
 }
 
-// What is run: a signature of the command's own, or else its words and its variables.
-fn push_program(out: &mut Vec<u8>, command: &Command) -> Result<(), NoMemory>
-    ensures { OnOk result (out.new.items ≡ out.old.items ++ definition_bytes command.now.signature command.now.args command.now.env) }
+/// Adds the signature of a command to a buffer, which may be used again for the next one. It fails only for want of memory,
+/// and may have added a part of the signature then.
+pub fn push_signature(out: &mut Vec<u8>, command: &Command) -> Result<(), NoMemory>
+    ensures { OnOk result (out.new.items ≡ out.old.items ++ signature_of (meaning_of command.now)) }
 {
-    match &command.signature {
-        Some(signature) => {
-            push_flag(out, true)?;
-            push_text(out, signature.as_slice())
-        }
-        None => {
-            push_flag(out, false)?;
-            push_args(out, &command.args)?;
-            push_env(out, &command.env)
-        }
-    }
+    out.push(group_byte(command))?;
+    push_keys(out, &command.inputs)?;
+    push_keys(out, &command.follow)?;
+    push_nodes(out, &command.outputs)?;
+    push_flag(out, command.allow_missing)?;
+    push_flag(out, command.always)?;
+    push_tool(out, command)
 }
 
-/// The signature of a shell command. Equal texts of fewer than 2^32 bytes mean commands that do the same. It fails for want of
-/// memory alone.
+/// The signature of a command: the canonical text of what it means. Two commands of a manifest have the same one exactly
+/// where they mean the same, as the law `same_text_is_same_meaning` says. It fails for want of memory alone.
 pub fn signature(alloc: Global, command: &Command) -> Result<Bytes, NoMemory>
-    ensures { command.now.tool ≡ tools.Shell → IfOk result (λ text. text ≡ signature_of (meaning_of command.now)) }
+    ensures { IfOk result (λ text. text ≡ signature_of (meaning_of command.now)) }
 {
     let mut out = Vec::new(alloc);
-    out.push(SHELL)?;
-    push_keys(&mut out, &command.inputs)?;
-    push_keys(&mut out, &command.follow)?;
-    push_nodes(&mut out, &command.outputs)?;
-    push_flag(&mut out, command.allow_missing)?;
-    push_flag(&mut out, command.always)?;
-    push_program(&mut out, command)?;
-    push_flag(&mut out, command.inherit_env)?;
-    push_paths(&mut out, &command.deps)?;
+    push_signature(&mut out, command)?;
     Ok(List::from_vec(out))
 }
 
-// The variables that are set for a command.
-fn variables(alloc: Global, env: &List<EnvPair>) -> Result<List<EnvText>, NoMemory>
-    ensures { IfOk result (λ variables. variables ≡ map variable_of env.now) }
+/// Adds the signature of a target to a buffer: what its nodes ask. It fails only for want of memory, and may have added a
+/// part of the signature then.
+pub fn push_target_signature(out: &mut Vec<u8>, target: &TargetEntry) -> Result<(), NoMemory>
+    ensures { OnOk result (out.new.items ≡ out.old.items ++ target_signature target.now) }
 {
-    let mut variables = List::new(alloc);
-    for pair in env.as_slice() {
-        variables.push(EnvText {
-            name: pair.name.copy(alloc)?,
-            text: pair.text.copy(alloc)?,
-        })?;
+    push_keys(out, &target.nodes)
+}
+
+// Whether both are paths, or both are virtual.
+fn alike(node: &NodeName, other: &NodeName) -> bool
+    ensures { result ≡ are_alike node.now other.now }
+{
+    match (node, other) {
+        (NodeName::Path(_), NodeName::Path(_)) => true,
+        (NodeName::Path(_), NodeName::Virtual(_)) => false,
+        (NodeName::Virtual(_), NodeName::Path(_)) => false,
+        (NodeName::Virtual(_), NodeName::Virtual(_)) => true,
     }
-    Ok(variables)
 }
 
-fn word(alloc: Global, text: &[u8]) -> Result<Bytes, NoMemory>
-    ensures { IfOk result (λ word. word ≡ text.now) }
+// Whether they are one node.
+fn one_node(node: &NodeName, other: &NodeName) -> bool
+    ensures { result ≡ is_same node.now other.now }
 {
-    Ok(List::from_vec(Vec::from_slice(alloc, text)?))
+    match (node, other) {
+        (NodeName::Path(path), NodeName::Path(other)) => path.text() == other.text(),
+        (NodeName::Path(_), NodeName::Virtual(_)) => false,
+        (NodeName::Virtual(_), NodeName::Path(_)) => false,
+        (NodeName::Virtual(name), NodeName::Virtual(other)) => name.text() == other.text(),
+    }
 }
 
-// The words of a command, or those that hand its line to the shell.
-fn words(alloc: Global, args: &Args) -> Result<List<Bytes>, NoMemory>
-    ensures { IfOk result (λ words. words ≡ words_of args.now) }
+// The place of a node among the nodes of its sort.
+fn place_of(node: &NodeName, nodes: &[NodeName]) -> usize
+    ensures { result ≡ place_among node.now nodes.now }
 {
-    match args {
-        Args::Absent => Ok(List::new(alloc)),
-        Args::Words(words) => words.copy(alloc),
-        Args::Line(line) => {
-            let mut words = List::new(alloc);
-            words.push(word(alloc, b"/bin/sh")?)?;
-            words.push(word(alloc, b"-c")?)?;
-            words.push(line.copy(alloc)?)?;
-            Ok(words)
+    let mut place = 0;
+    for other in nodes {
+        if one_node(node, other) {
+            return place;
+        }
+        if alike(node, other) {
+            place += 1;
+        }
+    }
+    place
+}
+
+/// Adds the signature of a node to a buffer: whether a command makes it, and if so the command's name, and the node's place
+/// among the command's outputs of its sort, paths or virtual nodes, counted from 0. It fails only for want of memory, and may
+/// have added a part of the signature then.
+pub fn push_node_signature(
+    out: &mut Vec<u8>,
+    maker: Option<&Command>,
+    node: &NodeName,
+) -> Result<(), NoMemory>
+    ensures { OnOk result (out.new.items ≡ out.old.items ++ node_signature (option_copied maker.entry) node.now) }
+{
+    match maker {
+        None => push_flag(out, false),
+        Some(maker) => {
+            push_flag(out, true)?;
+            push_text(out, maker.name.text().as_bytes())?;
+            push_count(out, place_of(node, maker.outputs.as_slice()))
         }
     }
 }
-
-// The paths among the nodes, in order.
-fn paths(alloc: Global, nodes: &List<NodeName>) -> Result<List<PathName>, NoMemory>
-    ensures { IfOk result (λ paths. paths ≡ paths_of nodes.now) }
-{
-    let mut paths = List::new(alloc);
-    for node in nodes.as_slice() {
-        match node {
-            NodeName::Path(path) => paths.push(path.copy(alloc)?)?,
-            NodeName::Virtual(_) => {}
-        }
-    }
-    Ok(paths)
-}
-
-/// The order of a shell command of a manifest on what was read of its inputs. It fails for want of memory alone.
-#[tactic(auto, using(crate::proofs::LengthLemmas::signature_short))]
-pub fn order_of(
-    alloc: Global,
-    command: &Command,
-    ticket: u64,
-    reads: List<Read>,
-) -> Result<Order, NoMemory>
-    requires { IsCommand command.now }
-    ensures ticket { IfOk result (λ order. order.ticket ≡ ticket) }
-    ensures command { IfOk result (λ order. order.command ≡ command.now.name) }
-    ensures signature { command.now.tool ≡ tools.Shell → IfOk result (λ order. order.signature ≡ signature_of (meaning_of command.now)) }
-    ensures act { command.now.tool ≡ tools.Shell → IfOk result (λ order. IsActOf (meaning_of command.now).tool order.act) }
-    ensures spawned { IfOk result (λ order. order.act ≡ Act.Spawn (words_of command.now.args) (map variable_of command.now.env) command.now.inherit_env false) }
-    ensures reads { IfOk result (λ order. order.reads ≡ reads) }
-    ensures outputs { IfOk result (λ order. order.outputs ≡ paths_of command.now.outputs) }
-    ensures deps { IfOk result (λ order. order.deps ≡ command.now.deps) }
-    ensures links { IfOk result (λ order. order.links ≡ []) }
-    ensures formed { command.now.tool ≡ tools.Shell → AreReadsOf (meaning_of command.now).inputs reads → IsDistinct (paths_of command.now.outputs)
-        → IfOk result (IsOrderOf (meaning_of command.now)) }
-{
-    let signature = signature(alloc, command)?;
-    let act = Act::Spawn {
-        words: words(alloc, &command.args)?,
-        env: variables(alloc, &command.env)?,
-        inherit_env: command.inherit_env,
-        clear: false,
-    };
-    Ok(Order {
-        ticket,
-        command: command.name.copy(alloc)?,
-        signature,
-        act,
-        reads,
-        outputs: paths(alloc, &command.outputs)?,
-        deps: command.deps.copy(alloc)?,
-        links: List::new(alloc),
-    })
-}
-
-#[cfg(test)]
-mod tests;

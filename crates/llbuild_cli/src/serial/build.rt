@@ -3,6 +3,7 @@ ghost use Rattle.std.specs.Prelude.{◌≡◌, ◌⊎◌, ℕ, ◌<◌, ◌≤�
 ghost use Rattle.file_info.specs.Content.{FileVersion};
 ghost use Rattle.file_info.specs.Lists.{In};
 ghost use Rattle.outside.specs.View.{Grew, Stayed, Tells};
+ghost use Rattle.build_manifest.specs.Command.{IsCommand};
 ghost use Rattle.build_meaning.specs.Need.{AreMarks};
 ghost use Rattle.build_plan.specs.Built.{IsBuilt};
 ghost use Rattle.llbuild_cli.specs.MissingInput.{ReadFirst, AllReadFirst, StopsAtMissing};
@@ -47,6 +48,7 @@ fn run_one<L: Law, W: World<L>, O: Sink>(
 ) -> Result<(), Stop>
     requires none { (W.view world.old).orders ≡ [] }
     requires room { length seen.old.starts < 2 ^ 64 - 1 }
+    requires keeps { IsCommand command.now }
     requires sound { IsSound command.now }
     requires unseen { (p : Items ℕ) → IsOutput command.now p → IsUnknown seen.old p }
     requires stands { SeenStands (W.view world.old) seen.old }

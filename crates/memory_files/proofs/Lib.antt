@@ -1,0 +1,5 @@
+pub mod LogLemmas
+pub mod MapLemmas
+pub mod NumberLemmas
+pub mod PlaceLemmas
+pub mod StepLemmas

@@ -1,6 +1,0 @@
-use Rattle.std.proofs.Common.{◌≡◌, ◌++◌, take}
-use Rattle.spelling.specs.Spelling.{items_bytes, text_bytes}
-use Rattle.tool_commands.proofs.signature.push_texts.Given as goal
-
-abbrev pub invariant-loop-text : goal.invariant-loop-text
-invariant-loop-text l = l.out.items ≡ l.initial.out.items ++ items_bytes text_bytes (take l.text-index l.text-items)
