@@ -230,35 +230,35 @@ fn two_files(alloc: Global) -> Result<List<Read>, Fail> {
     Ok(reads)
 }
 
+// The status of the archive's order in memory over what stands there, and what stands there then.
+fn packed_in_memory(alloc: Global, before: char) -> Result<(Exit, char), Fail> {
+    let reads = two_files(alloc)?;
+    let mut world = furnished(alloc, "orders_pack.a", before)?;
+    let exit = perform(alloc, &mut world, PACK, reads)?;
+    let now = letter(alloc, &mut world, "orders_pack.a", Form::Link)?;
+    Ok((exit, now))
+}
+
 #[test]
 fn archives_are_made_in_memory(rt: HostRuntime) -> Result<(), Fail> {
-    let alloc = rt.alloc();
-    let mut world = furnished(alloc, "orders_pack.a", 'f')?;
-    assert_eq!(rt;
-        perform(alloc, &mut world, PACK, two_files(alloc)?)?,
-        Exit::Code(0)
-    );
-    let mut world = furnished(alloc, "orders_pack.a", 'd')?;
-    assert_eq!(rt;
-        perform(alloc, &mut world, PACK, two_files(alloc)?)?,
-        Exit::Code(1)
-    );
-    assert_eq!(rt;
-        letter(alloc, &mut world, "orders_pack.a", Form::Link)?,
-        'd'
-    );
+    for (before, code, now) in [('f', 0, 'f'), ('d', 1, 'd')] {
+        assert_eq!(rt;
+            packed_in_memory(rt.alloc(), before)?,
+            (Exit::Code(code), now),
+            "over {before}"
+        );
+    }
     Ok(())
 }
 
-// Makes the archive over what stands there: whether it was made, and what stands there then. `ar` refuses a file that is no
+// Makes an archive over what stands there: whether it was made, and what stands there then. `ar` refuses a file that is no
 // archive, so the old file was removed.
-fn packed(rt: HostRuntime, before: char) -> Result<(bool, char), Fail> {
-    let alloc = rt.alloc();
+fn packed(rt: HostRuntime, place: usize, at: &str, before: char) -> Result<(bool, char), Fail> {
+    furnish(&rt, at, before)?;
     let mut world = RealWorld::new(rt);
-    furnish(&rt, "orders_pack.a", before)?;
-    let exit = perform(alloc, &mut world, PACK, List::new(alloc))?;
-    let now = letter(alloc, &mut world, "orders_pack.a", Form::Link)?;
-    remove(&rt, "orders_pack.a", now)?;
+    let exit = perform(rt.alloc(), &mut world, place, List::new(rt.alloc()))?;
+    let now = letter(rt.alloc(), &mut world, at, Form::Link)?;
+    remove(&rt, at, now)?;
     Ok((exit == Exit::Code(0), now))
 }
 
@@ -270,14 +270,11 @@ fn archives_are_made_where_ar_is_installed(rt: HostRuntime) -> Result<(), Fail> 
     furnish(&rt, "orders_one", 'f')?;
     furnish(&rt, "orders_two", 'f')?;
     for (before, outcome) in [('-', (true, 'f')), ('f', (true, 'f')), ('d', (false, 'd'))] {
-        assert_eq!(rt; packed(rt, before)?, outcome, "over {before}");
+        let now = packed(rt, PACK, "orders_pack.a", before)?;
+        assert_eq!(rt; now, outcome, "over {before}");
     }
+    assert!(rt; !packed(rt, LOST, "orders_lost.a", '-')?.0);
     remove(&rt, "orders_one", 'f')?;
     remove(&rt, "orders_two", 'f')?;
-    let mut world = RealWorld::new(rt);
-    let lost = perform(rt.alloc(), &mut world, LOST, List::new(rt.alloc()))?;
-    assert!(rt; lost != Exit::Code(0));
-    let left = letter(rt.alloc(), &mut world, "orders_lost.a", Form::Link)?;
-    remove(&rt, "orders_lost.a", left)?;
     Ok(())
 }
