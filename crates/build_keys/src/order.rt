@@ -9,7 +9,6 @@ ghost use Rattle.build_keys.specs.KeyOrder.{key_cmp};
 
 use crate::key::Key;
 use crate::laws::path_has_a_spelling;
-use crate::tags::{COMMAND, CONTENTS, NODE, STRUCTURE, TARGET, TREE};
 use file_info::list::{Bytes, List};
 use file_info::node::NodeName;
 use file_info::path::PathName;
@@ -90,20 +89,6 @@ fn listed_order(
     }
 }
 
-// The tag of a key.
-fn tag(key: &Key) -> u8
-    ensures { result ≡ tag_of key.now }
-{
-    match key {
-        Key::Target(_) => TARGET,
-        Key::Command(_) => COMMAND,
-        Key::Node(_) => NODE,
-        Key::Contents(_) => CONTENTS,
-        Key::Tree(_, _) => TREE,
-        Key::Structure(_, _) => STRUCTURE,
-    }
-}
-
 // The order of keys of one kind.
 fn parts_order(a: &Key, b: &Key) -> Ordering
     requires first { HasPatterns a.now }
@@ -133,7 +118,7 @@ pub fn key_order(a: &Key, b: &Key) -> Ordering
     requires second { HasPatterns b.now }
     ensures { result ≡ key_cmp a.now b.now }
 {
-    match tag(a).cmp(&tag(b)) {
+    match a.tag().cmp(&b.tag()) {
         Ordering::Equal => parts_order(a, b),
         order => order,
     }

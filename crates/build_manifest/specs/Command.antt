@@ -18,6 +18,27 @@ use Rattle.build_manifest.specs.declared.command.TargetEntry.{TargetEntry}
 use Rattle.build_manifest.specs.declared.command.Tool.{Tool}
 use Rattle.build_manifest.specs.declared.command.Tool.TheVariants as tools
 
+-- the command of this name and this tool of which nothing else is said
+abbrev pub bare_command : List ℕ → Tool → Command
+bare_command name tool = record {
+  name = name;
+  tool = tool;
+  inputs = [];
+  follow = [];
+  outputs = [];
+  description = None;
+  args = Absent;
+  env = [];
+  inherit_env = true;
+  deps = [];
+  signature = None;
+  contents = [];
+  allow_missing = false;
+  always = false;
+  expected = [];
+  roots = [];
+}
+
 -- at most 64 patterns, each in UTF-8 and of at most 255 bytes
 pub record ArePatterns (patterns : List (List ℕ)) : Type 0 where
   pub few : length patterns ≤ 64

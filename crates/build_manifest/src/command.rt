@@ -1,8 +1,12 @@
 //! What a manifest holds: targets and commands.
+ghost use Rattle.std.specs.Prelude.{◌≡◌};
+ghost use Rattle.build_manifest.specs.Command.{bare_command};
+
 use file_info::list::{Bytes, List};
 use file_info::name::Name;
 use file_info::node::NodeName;
 use file_info::path::PathName;
+use std::alloc::Global;
 
 /// The most targets of a manifest.
 pub const TARGETS_MAX: usize = 65_536;
@@ -111,6 +115,32 @@ pub struct Command {
     pub expected: List<PathName>,
     /// Where a removal takes place.
     pub roots: List<PathName>,
+}
+
+impl Command {
+    /// The command with this name and this tool of which nothing else is said.
+    pub fn bare(alloc: Global, name: Name, tool: Tool) -> Command
+        ensures { result ≡ bare_command name tool }
+    {
+        Command {
+            name,
+            tool,
+            inputs: List::new(alloc),
+            follow: List::new(alloc),
+            outputs: List::new(alloc),
+            description: None,
+            args: Args::Absent,
+            env: List::new(alloc),
+            inherit_env: true,
+            deps: List::new(alloc),
+            signature: None,
+            contents: List::new(alloc),
+            allow_missing: false,
+            always: false,
+            expected: List::new(alloc),
+            roots: List::new(alloc),
+        }
+    }
 }
 
 /// A target: a name for nodes that are built together.

@@ -3,7 +3,7 @@ mod parts;
 
 use crate::fault::RuleFault;
 use crate::manifest::Manifest;
-use crate::tests::parts::{Row, manifest, node, node_text, path};
+use crate::tests::parts::{Row, manifest, node, path};
 use std::alloc::Global;
 use std::test::Fail;
 
@@ -49,14 +49,7 @@ fn text_of(alloc: Global, fault: &RuleFault) -> Result<String, Fail> {
             node,
             first,
             second,
-        } => {
-            format!(in alloc;
-                "{} of {} and {}",
-                node_text(node),
-                first.text(),
-                second.text()
-            )?
-        }
+        } => { format!(in alloc; "{} of {} and {}", node.text(), first.text(), second.text())? }
         RuleFault::DepsClash { command, path } => {
             format!(in alloc; "deps {} of {}", path.text(), command.text())?
         }

@@ -1,6 +1,5 @@
 //! What is said of a manifest that is refused.
 ghost use Rattle.std.specs.Prelude.{◌≡◌, ◌++◌, OnOk};
-ghost use Rattle.file_info.specs.Content.{node_text};
 ghost use Rattle.build_report.specs.Escape.{show};
 ghost use Rattle.build_report.specs.ErrorText.{client_text, counted_text, deps_text, directory_text, feature_text, left_out_text, limit_text, load_text, makers_text, pair_text, text_in, yaml_text};
 
@@ -100,16 +99,6 @@ fn push_client(out: &mut Vec<u8>, name: &Bytes, version: &Bytes) -> Result<(), A
     push_shown(out, version.as_slice())
 }
 
-// The text of a node.
-fn text_of(node: &NodeName) -> &str
-    ensures { result.now ≡ node_text node.now }
-{
-    match node {
-        NodeName::Path(path) => path.text(),
-        NodeName::Virtual(name) => name.text(),
-    }
-}
-
 // Adds two commands.
 #[tactic(auto, unfolding(crate::specs::ErrorText::pair_text))]
 fn push_pair(out: &mut Vec<u8>, first: &Name, second: &Name) -> Result<(), AllocError>
@@ -129,7 +118,7 @@ fn push_makers(
 ) -> Result<(), AllocError>
     ensures { OnOk result (out.new.items ≡ out.old.items ++ makers_text node.now first.now second.now) }
 {
-    push_shown(out, text_of(node).as_bytes())?;
+    push_shown(out, node.text().as_bytes())?;
     out.extend_from_slice(b" is made by ")?;
     push_pair(out, first, second)
 }

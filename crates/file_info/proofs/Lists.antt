@@ -1,9 +1,10 @@
 -- Facts on lists: membership, look-ups by place, and images.
 use Rattle.std.proofs.Common.{◌≡◌, ◌⊎◌, ◌<◌, ◌≤◌, ℕ, zero, suc, ◌+◌, Bool, true, false, List, [], ◌∷◌, ◌++◌, map, length, take, drop, get_or}
-use Rattle.std.proofs.Common.{suc-add, zero-add, add-one, refl, inl, inr, ap, sym, subst, arith, ◌∙◌}
-use Rattle.std.specs.Prelude.{slice_get, Some, ◌||◌}
+use Rattle.std.proofs.Common.{suc-add, zero-add, add-one, refl, inl, inr, ap, sym, subst, arith, ◌∙◌, eqb, eq-eqb, eqb-true}
+use Rattle.std.specs.Prelude.{slice_get, Some, ◌&&◌, ◌||◌}
 use Rattle.std.specs.List.{list_any}
 use Rattle.std.proofs.lemmas.Option.{slice_get-get_or}
+use Rattle.file_info.specs.Content.{same_list}
 use Rattle.file_info.specs.Lists.{In, IsDistinct}
 
 -- ---- membership
@@ -88,6 +89,22 @@ distinct-more (y ∷ ys) x d new = (λ i. none (In-either y ys (x ∷ []) i), di
     none : In y ys ⊎ In y (x ∷ []) → ⊥
     none (inl i) = d.0 i
     none (inr i) = new (inl (sym (In-one i)))
+
+-- ---- equality
+
+pub same_list-refl : (xs : List ℕ) → same_list xs xs ≡ true
+same_list-refl [] = refl
+same_list-refl (x ∷ xs) = rw (eq-eqb x x refl) (same_list-refl xs)
+
+pub same_list-true : (xs ys : List ℕ) → same_list xs ys ≡ true → xs ≡ ys
+same_list-true [] [] e = refl
+same_list-true [] (y ∷ ys) e = cc e
+same_list-true (x ∷ xs) [] e = cc e
+same_list-true (x ∷ xs) (y ∷ ys) e = go (eqb x y) refl e (same_list-true xs ys)
+  where
+    go : (b : Bool) → eqb x y ≡ b → (b && same_list xs ys) ≡ true → (same_list xs ys ≡ true → xs ≡ ys) → x ∷ xs ≡ y ∷ ys
+    go true h f ih = (let first : x ≡ y = eqb-true x y h in let rest : xs ≡ ys = ih f in cc)
+    go false h f ih = cc f
 
 -- ---- tests
 

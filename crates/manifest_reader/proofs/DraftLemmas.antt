@@ -8,11 +8,11 @@ use Rattle.yaml_profile.specs.Tree.{name_of, value_of, IsTree}
 use Rattle.yaml_profile.specs.Weight.{total, pair_weight, weight}
 use Rattle.yaml_profile.specs.declared.yaml.Yaml.{Yaml}
 use Rattle.yaml_profile.specs.declared.yaml.Pair.{Pair}
-use Rattle.build_manifest.specs.Command.{IsCommand, own_weight}
+use Rattle.build_manifest.specs.Command.{bare_command, IsCommand, own_weight}
 use Rattle.build_manifest.specs.declared.command.Tool.{Tool}
 use Rattle.build_manifest.specs.declared.command.Tool.TheVariants.{Phony, Shell, Mkdir, Symlink, Archive, StaleFileRemoval}
 use Rattle.build_manifest.specs.declared.draft.Draft.{Draft}
-use Rattle.manifest_reader.specs.Commands.{bare_command, bare_draft, taken, tool_of, finished, draft_of}
+use Rattle.manifest_reader.specs.Commands.{bare_draft, taken, tool_of, finished, draft_of}
 use Rattle.manifest_values.specs.Known.{Facts, is_virtual_text, pairs_or_none, texts_or_none, says, makes_virtual, is_scalar, virtual_outputs}
 use Rattle.manifest_values.specs.Refusal.{fold}
 use Rattle.manifest_reader.specs.Rows.{attribute_of, tool_named}

@@ -7,7 +7,7 @@ use Rattle.file_info.specs.Normal.{IsPath}
 use Rattle.file_info.specs.declared.node.NodeName.{NodeName}
 use Rattle.yaml_profile.specs.Tree.{IsTree}
 use Rattle.yaml_profile.specs.declared.yaml.Yaml.{Yaml}
-use Rattle.build_manifest.specs.Command.{AreInputs, IsNode, IsProgram, IsVariable, MakesNoFile, has_nul}
+use Rattle.build_manifest.specs.Command.{bare_command, AreInputs, IsNode, IsProgram, IsVariable, MakesNoFile, has_nul}
 use Rattle.build_manifest.specs.declared.command.Args.{Args}
 use Rattle.build_manifest.specs.declared.command.Args.TheVariants.{Absent, Words, Line}
 use Rattle.build_manifest.specs.declared.command.Command.{Command}
@@ -17,7 +17,7 @@ use Rattle.build_manifest.specs.declared.command.Tool.{Tool}
 use Rattle.build_manifest.specs.declared.draft.Draft.{Draft}
 use Rattle.manifest_reader.specs.declared.attributes.Attribute.{Attribute}
 use Rattle.manifest_reader.specs.declared.attributes.Attribute.TheVariants as attribute
-use Rattle.manifest_reader.specs.Commands.{asks_nothing, bare_command, inputs_of, follow_of, outputs_of, with_outputs, deps_of, paths_of, put}
+use Rattle.manifest_reader.specs.Commands.{asks_nothing, inputs_of, follow_of, outputs_of, with_outputs, deps_of, paths_of, put}
 use Rattle.manifest_values.specs.Known.{Facts}
 use Rattle.manifest_values.specs.Shapes.{text_of, flag_of}
 use Rattle.manifest_values.specs.Values.{exactly, program_of, variables_of, link_of}

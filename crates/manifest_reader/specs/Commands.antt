@@ -5,7 +5,7 @@ use Rattle.file_info.specs.declared.node.NodeName.{NodeName}
 use Rattle.yaml_profile.specs.Tree.{name_of, value_of}
 use Rattle.yaml_profile.specs.declared.yaml.Yaml.{Yaml}
 use Rattle.yaml_profile.specs.declared.yaml.Pair.{Pair}
-use Rattle.build_manifest.specs.Command.{files_in}
+use Rattle.build_manifest.specs.Command.{bare_command, files_in}
 use Rattle.build_manifest.specs.declared.command.Args.TheVariants.{Absent, Words, Line}
 use Rattle.build_manifest.specs.declared.command.Command.{Command}
 use Rattle.build_manifest.specs.declared.command.Input.{Input}
@@ -28,28 +28,7 @@ use Rattle.manifest_values.specs.Shapes.{text_of, pairs_of, texts_of, flag_of, v
 use Rattle.manifest_values.specs.Texts.{is_name}
 use Rattle.manifest_values.specs.Values.{has_item, program_of, variables_of, link_of, exactly}
 
--- the command of this name and this tool of which nothing else is said
-abbrev pub bare_command : List ℕ → Tool → Command
-bare_command name tool = record {
-  name = name;
-  tool = tool;
-  inputs = [];
-  follow = [];
-  outputs = [];
-  description = None;
-  args = Absent;
-  env = [];
-  inherit_env = true;
-  deps = [];
-  signature = None;
-  contents = [];
-  allow_missing = false;
-  always = false;
-  expected = [];
-  roots = [];
-}
-
--- the same before the rules over the whole
+-- the command of this name and this tool of which nothing else is said, before the rules over the whole
 abbrev pub bare_draft : List ℕ → Tool → Draft
 bare_draft name tool = record { command = bare_command name tool; directory = None }
 

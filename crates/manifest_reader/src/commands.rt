@@ -59,26 +59,8 @@ impl Step for TakeAttribute<'_> {
 fn bare_draft(alloc: Global, name: Name, tool: Tool) -> Draft
     ensures { result ≡ spec.bare_draft name tool }
 {
-    let command = Command {
-        name,
-        tool,
-        inputs: List::new(alloc),
-        follow: List::new(alloc),
-        outputs: List::new(alloc),
-        description: None,
-        args: Args::Absent,
-        env: List::new(alloc),
-        inherit_env: true,
-        deps: List::new(alloc),
-        signature: None,
-        contents: List::new(alloc),
-        allow_missing: false,
-        always: false,
-        expected: List::new(alloc),
-        roots: List::new(alloc),
-    };
     Draft {
-        command,
+        command: Command::bare(alloc, name, tool),
         directory: None,
     }
 }

@@ -7,7 +7,6 @@ mod refusals;
 use crate::error::LoadError;
 use crate::load::load;
 use build_manifest::manifest::Manifest;
-use file_info::node::NodeName;
 use manifest_values::refusal::Counted;
 use std::alloc::Global;
 use std::process::Abort;
@@ -60,13 +59,6 @@ fn counted_said(what: Counted) -> &'static str {
     }
 }
 
-fn node_text(node: &NodeName) -> &[u8] {
-    match node {
-        NodeName::Path(path) => path.text().as_bytes(),
-        NodeName::Virtual(name) => name.text().as_bytes(),
-    }
-}
-
 // A rule over the whole that is broken.
 fn rule_said(alloc: Global, error: &LoadError) -> Result<Vec<u8>, Fail> {
     match error {
@@ -79,7 +71,14 @@ fn rule_said(alloc: Global, error: &LoadError) -> Result<Vec<u8>, Fail> {
             let (first, second) = (first.text().as_bytes(), second.text().as_bytes());
             joined(
                 alloc,
-                &[b"makers ", node_text(node), b" ", first, b" ", second],
+                &[
+                    b"makers ",
+                    node.text().as_bytes(),
+                    b" ",
+                    first,
+                    b" ",
+                    second,
+                ],
             )
         }
         LoadError::DirectoryOutput { command, node } => {

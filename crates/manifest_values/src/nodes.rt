@@ -172,14 +172,6 @@ nodes:
         }
     }
 
-    // The text of the node.
-    fn node_text(node: &NodeName) -> &str {
-        match node {
-            NodeName::Path(path) => path.text(),
-            NodeName::Virtual(name) => name.text(),
-        }
-    }
-
     // What is known from the text.
     fn known(alloc: Global) -> Option<Known> {
         match read(alloc, TEXT.as_bytes()) {
@@ -194,9 +186,7 @@ nodes:
             return false;
         };
         match input_of(alloc, known, b"owner", text) {
-            Ok(input) => {
-                form_name(&input.form) == (row.1, row.3) && node_text(&input.node) == row.2
-            }
+            Ok(input) => { form_name(&input.form) == (row.1, row.3) && input.node.text() == row.2 }
             Err(stop) => matches!(stop, Stop::Refused(_)) && row.1 == "refused",
         }
     }

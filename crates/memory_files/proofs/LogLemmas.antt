@@ -1,5 +1,5 @@
 -- The log of writes.
-use Rattle.std.proofs.Common.{◌≡◌, ℕ, Bool, true, false, cond, List, [], ◌∷◌, ◌++◌, refl, inl, inr, ap, sym, ◌∙◌, subst, eq-eqb, eqb-true, eqb}
+use Rattle.std.proofs.Common.{◌≡◌, ℕ, Bool, true, false, cond, List, [], ◌∷◌, ◌++◌, refl, inl, inr, ap, sym, ◌∙◌, subst}
 use Rattle.std.specs.Prelude.{◌&&◌, Option, Some, None}
 use Rattle.file_info.specs.Content.{FileVersion, content, same_list, text_at, Text}
 use Rattle.file_info.specs.Lists.{In}
@@ -9,21 +9,7 @@ use Rattle.memory_files.specs.declared.write.What.{What}
 use Rattle.memory_files.specs.declared.write.What.TheVariants.{Gone, Dir, Bytes, LinkText}
 use Rattle.memory_files.specs.declared.write.Write.{Write}
 use Rattle.memory_files.specs.Log.{later, last_of, info_of, what_info, content_of, what_content, standing, AgreesAt, with_known, known_of, Tells}
-use Rattle.file_info.proofs.Lists.{In-left}
-
-pub same_list-refl : (xs : List ℕ) → same_list xs xs ≡ true
-same_list-refl [] = refl
-same_list-refl (x ∷ xs) = rw (eq-eqb x x refl) (same_list-refl xs)
-
-pub same_list-true : (xs ys : List ℕ) → same_list xs ys ≡ true → xs ≡ ys
-same_list-true [] [] e = refl
-same_list-true [] (y ∷ ys) e = cc e
-same_list-true (x ∷ xs) [] e = cc e
-same_list-true (x ∷ xs) (y ∷ ys) e = go (eqb x y) refl e (same_list-true xs ys)
-  where
-    go : (b : Bool) → eqb x y ≡ b → (b && same_list xs ys) ≡ true → (same_list xs ys ≡ true → xs ≡ ys) → x ∷ xs ≡ y ∷ ys
-    go true h f ih = (let first : x ≡ y = eqb-true x y h in let rest : xs ≡ ys = ih f in cc)
-    go false h f ih = cc f
+use Rattle.file_info.proofs.Lists.{In-left, same_list-refl, same_list-true}
 
 later-none : (o : Option Write) → later o None ≡ o
 later-none (Some v) = refl

@@ -8,7 +8,8 @@ use Rattle.memory_files.specs.declared.write.What.{What}
 use Rattle.memory_files.specs.declared.write.What.TheVariants.{Gone, Dir, Bytes, LinkText}
 use Rattle.memory_files.specs.declared.write.Write.{Write}
 use Rattle.memory_files.specs.Log.{AgreesAt, Tells, numbered_from, map_of, text_of}
-use Rattle.memory_files.proofs.LogLemmas.{same_list-refl, agrees-all}
+use Rattle.memory_files.proofs.LogLemmas.{agrees-all}
+use Rattle.file_info.proofs.Lists.{same_list-refl}
 use Rattle.memory_files.proofs.NumberLemmas.{both-true}
 
 above : (ws : List Write) (n : ℕ) → numbered_from n ws ≡ true → (w : Write) → In w ws → n ≤ w.number

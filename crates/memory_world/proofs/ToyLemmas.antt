@@ -26,8 +26,8 @@ use Rattle.outside.specs.Outcome.{Unchanged, StandsAs, asked_as, form_of, makes_
 use Rattle.memory_files.specs.Log.{put, last_of, info_of, info_at as at, is_directory, content_of, what_content, standing, Tells}
 use Rattle.memory_world.specs.Toy.{ToyDoes, message_of, digest_of, made_of, contents_from, runs_program, fails, reading_fails}
 use Rattle.memory_world.specs.Performance.{entry_at, reading_at, read_at, reads_at, is_read, is_kept, is_blocked, has_failing, fails_on, is_served, succeeds, hashed, made_by, put_outputs, performed, exit_of}
-use Rattle.file_info.proofs.Lists.{any-in, map-same}
-use Rattle.memory_files.proofs.LogLemmas.{same_list-refl, last-put, last-put_apart, standing-told}
+use Rattle.file_info.proofs.Lists.{any-in, map-same, same_list-refl}
+use Rattle.memory_files.proofs.LogLemmas.{last-put, last-put_apart, standing-told}
 use Rattle.memory_world.proofs.OutputLemmas.{or-false, any-none}
 
 -- other paths stay as they are

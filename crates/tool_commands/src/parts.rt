@@ -21,16 +21,6 @@ const TREE: u8 = 5;
 
 const STRUCTURE: u8 = 6;
 
-// The text of a node, without what tells paths and virtual names apart.
-fn text_of(node: &NodeName) -> &str
-    ensures { result.now ≡ node_text node.now }
-{
-    match node {
-        NodeName::Path(path) => path.text(),
-        NodeName::Virtual(name) => name.text(),
-    }
-}
-
 // Adds a tag, the text of a node, and patterns.
 fn push_listed(
     out: &mut Vec<u8>,
@@ -41,7 +31,7 @@ fn push_listed(
     ensures { OnOk result (out.new.items ≡ out.old.items ++ tag ∷ text_bytes (node_text node.now) ++ list_bytes text_bytes patterns.now) }
 {
     out.push(tag)?;
-    push_text(out, text_of(node).as_bytes())?;
+    push_text(out, node.text().as_bytes())?;
     push_texts(out, patterns)
 }
 

@@ -66,24 +66,18 @@ fn env(alloc: Global, text: &str) -> Result<List<EnvPair>, Fail> {
 
 // A command with this tool, and something in each field.
 fn command(alloc: Global, tool: Tool) -> Result<Command, Fail> {
-    Ok(Command {
-        name: Name::read(alloc, "p")?,
-        tool,
-        inputs: inputs(alloc, "s", "s", InputForm::File)?,
-        follow: inputs(alloc, "f", "f", InputForm::File)?,
-        outputs: nodes(alloc, &["t"])?,
-        description: Some(bytes(alloc, "d")?),
-        args: Args::Words(texts(alloc, "w")?),
-        env: env(alloc, "v")?,
-        inherit_env: true,
-        deps: paths(alloc, "t.d")?,
-        signature: None,
-        contents: bytes(alloc, "c")?,
-        allow_missing: false,
-        always: false,
-        expected: paths(alloc, "e")?,
-        roots: paths(alloc, "r")?,
-    })
+    let mut command = Command::bare(alloc, Name::read(alloc, "p")?, tool);
+    command.inputs = inputs(alloc, "s", "s", InputForm::File)?;
+    command.follow = inputs(alloc, "f", "f", InputForm::File)?;
+    command.outputs = nodes(alloc, &["t"])?;
+    command.description = Some(bytes(alloc, "d")?);
+    command.args = Args::Words(texts(alloc, "w")?);
+    command.env = env(alloc, "v")?;
+    command.deps = paths(alloc, "t.d")?;
+    command.contents = bytes(alloc, "c")?;
+    command.expected = paths(alloc, "e")?;
+    command.roots = paths(alloc, "r")?;
+    Ok(command)
 }
 
 const TOOLS: [Tool; 6] = [

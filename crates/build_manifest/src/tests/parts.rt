@@ -28,14 +28,6 @@ pub type Row = (
     (&'static str, &'static str),
 );
 
-/// The text of a node.
-pub fn node_text(node: &NodeName) -> &str {
-    match node {
-        NodeName::Path(path) => path.text(),
-        NodeName::Virtual(name) => name.text(),
-    }
-}
-
 fn name(alloc: Global, text: &str) -> Result<Name, Fail>
     ensures { IfOk result (λ name. name ≡ text.now) }
 {
@@ -157,24 +149,13 @@ fn shell(
     ensures is { IsCommand result }
     ensures named { result.name ≡ name }
 {
-    Command {
-        name,
-        tool: Tool::Shell,
-        inputs,
-        follow,
-        outputs,
-        description: None,
-        args: Args::Line(List::new(alloc)),
-        env: List::new(alloc),
-        inherit_env: true,
-        deps,
-        signature: None,
-        contents: List::new(alloc),
-        allow_missing: false,
-        always: false,
-        expected: List::new(alloc),
-        roots: List::new(alloc),
-    }
+    let mut command = Command::bare(alloc, name, Tool::Shell);
+    command.inputs = inputs;
+    command.follow = follow;
+    command.outputs = outputs;
+    command.args = Args::Line(List::new(alloc));
+    command.deps = deps;
+    command
 }
 
 fn command(alloc: Global, text: &str, row: &Row) -> Result<Command, Fail>

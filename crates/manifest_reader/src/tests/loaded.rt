@@ -2,6 +2,7 @@
 use super::*;
 use build_manifest::command::{Args, Command, Input, InputForm, Tool};
 use file_info::list::{Bytes, List};
+use file_info::node::NodeName;
 use file_info::path::PathName;
 
 // A manifest with every section, and with what is special about nodes.
@@ -84,8 +85,8 @@ commands:
 // How an input is read, in a few words, with the patterns.
 fn form_said(alloc: Global, input: &Input) -> Result<Vec<u8>, Fail> {
     match &input.form {
-        InputForm::File => joined(alloc, &[b"file ", node_text(&input.node)]),
-        InputForm::Virtual => joined(alloc, &[b"virtual ", node_text(&input.node)]),
+        InputForm::File => joined(alloc, &[b"file ", input.node.text().as_bytes()]),
+        InputForm::Virtual => joined(alloc, &[b"virtual ", input.node.text().as_bytes()]),
         InputForm::Tree(patterns) => patterned(alloc, b"tree ", input, patterns),
         InputForm::Structure(patterns) => patterned(alloc, b"structure ", input, patterns),
     }
@@ -98,7 +99,7 @@ fn patterned(
     input: &Input,
     patterns: &List<Bytes>,
 ) -> Result<Vec<u8>, Fail> {
-    let mut out = joined(alloc, &[kind, node_text(&input.node)])?;
+    let mut out = joined(alloc, &[kind, input.node.text().as_bytes()])?;
     for pattern in patterns.as_slice() {
         out.extend_from_slice(b" ")?;
         out.extend_from_slice(pattern.as_slice())?;

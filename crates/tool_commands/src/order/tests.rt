@@ -52,24 +52,11 @@ fn lists(alloc: Global) -> Result<Command, Fail>
     ensures is { IfOk result (λ command. IsCommand command) }
     ensures tool { IfOk result (λ command. command.tool ≡ Tool.Shell) }
 {
-    Ok(Command {
-        name: Name::read(alloc, "list")?,
-        tool: Tool::Shell,
-        inputs: inputs(alloc)?,
-        follow: List::new(alloc),
-        outputs: outputs(alloc)?,
-        description: None,
-        args: Args::Line(line(alloc)?),
-        env: List::new(alloc),
-        inherit_env: true,
-        deps: List::new(alloc),
-        signature: None,
-        contents: List::new(alloc),
-        allow_missing: false,
-        always: false,
-        expected: List::new(alloc),
-        roots: List::new(alloc),
-    })
+    let mut command = Command::bare(alloc, Name::read(alloc, "list")?, Tool::Shell);
+    command.inputs = inputs(alloc)?;
+    command.outputs = outputs(alloc)?;
+    command.args = Args::Line(line(alloc)?);
+    Ok(command)
 }
 
 // The words that are started.
