@@ -1,0 +1,4 @@
+pub mod ListLemmas
+pub mod ScanLemmas
+pub mod LeastLemmas
+pub mod RingLemmas
